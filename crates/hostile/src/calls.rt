@@ -25,7 +25,7 @@ pub(crate) const PIECES: u32 = 3;
 pub(crate) const WORKERS: u32 = 2;
 
 /// A theorem cites by all nodes of its proof.
-const BY_ALL_NODES: bool = false;
+pub(crate) const BY_ALL_NODES: bool = false;
 
 /// A plan that cuts the text in this way, checks proofs with `workers` workers, and writes these
 /// sections.

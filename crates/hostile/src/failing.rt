@@ -51,6 +51,22 @@ fn failed_run_is<R: Threads + Wait + Sync>(
     end == Some(want.end) && written.as_slice() == want.output && from.calls == want.calls
 }
 
+/// The outcome of a run whose reader fails at this call, which may be one after the last.
+fn outcome_of_reads(fails_at: usize) -> Outcome<'static> {
+    if fails_at > READS {
+        return Outcome {
+            end: RunEnd::Accepted,
+            output: FIRST_REPORT,
+            calls: READS,
+        };
+    }
+    Outcome {
+        end: RunEnd::ReadFailed,
+        output: b"",
+        calls: fails_at,
+    }
+}
+
 // An interrupted read fails like any other. The reader returns bytes again after the call that
 // failed, so a second try would be noticed.
 #[test]
@@ -60,20 +76,11 @@ fn a_read_that_fails_is_not_tried_again(rt: HostRuntime) {
         ErrorKind::Interrupted,
         ErrorKind::WouldBlock,
     ] {
-        for fails_at in 1..READS + 1 {
-            let want = Outcome {
-                end: RunEnd::ReadFailed,
-                output: b"".as_slice(),
-                calls: fails_at,
-            };
-            assert!(&rt; failed_run_is(&rt, rt.alloc(), fails_at, kind, want));
+        for fails_at in 1..READS + 2 {
+            let want = outcome_of_reads(fails_at);
+            let is_right = failed_run_is(&rt, rt.alloc(), fails_at, kind, want);
+            assert!(&rt; is_right, "read {fails_at}");
         }
-        let want = Outcome {
-            end: RunEnd::Accepted,
-            output: FIRST_REPORT,
-            calls: READS,
-        };
-        assert!(&rt; failed_run_is(&rt, rt.alloc(), READS + 1, kind, want));
     }
 }
 
@@ -98,6 +105,28 @@ fn stopped_run_is<R: Threads + Wait + Sync>(
     end == Some(want.end) && to.taken.as_slice() == want.output && to.calls == want.calls
 }
 
+/// Whether a run on the text fails with its output up to there where the writer stops, which it
+/// does after each number of bytes below the output's length.
+fn fails_at_each_write<R: Threads + Wait + Sync>(
+    rt: &R,
+    alloc: Global,
+    text: &[u8],
+    output: &[u8],
+    stop: Stop,
+) -> bool {
+    for stops_after in 0..output.len() {
+        let want = Outcome {
+            end: RunEnd::WriteFailed,
+            output: &output[..stops_after],
+            calls: stops_after + 1,
+        };
+        if !stopped_run_is(rt, alloc, text, stops_after, stop, want) {
+            return false;
+        }
+    }
+    true
+}
+
 // The writer takes bytes again after the call that took none, so a second try would be noticed.
 #[test]
 fn a_write_that_fails_is_not_tried_again(rt: HostRuntime) {
@@ -106,22 +135,10 @@ fn a_write_that_fails_is_not_tried_again(rt: HostRuntime) {
         Stop::Fails(ErrorKind::Interrupted),
         Stop::TakesNothing,
     ] {
-        for stops_after in 0..FIRST_REPORT.len() {
-            let want = Outcome {
-                end: RunEnd::WriteFailed,
-                output: &FIRST_REPORT[..stops_after],
-                calls: stops_after + 1,
-            };
-            assert!(&rt; stopped_run_is(&rt, rt.alloc(), FIRST_TEXT, stops_after, stop, want));
-        }
-        for stops_after in 0..UNENDED_REFUSAL.len() {
-            let want = Outcome {
-                end: RunEnd::WriteFailed,
-                output: &UNENDED_REFUSAL[..stops_after],
-                calls: stops_after + 1,
-            };
-            assert!(&rt; stopped_run_is(&rt, rt.alloc(), UNENDED, stops_after, stop, want));
-        }
+        assert!(&rt;
+            fails_at_each_write(&rt, rt.alloc(), FIRST_TEXT, FIRST_REPORT, stop)
+                && fails_at_each_write(&rt, rt.alloc(), UNENDED, UNENDED_REFUSAL, stop)
+        );
     }
 }
 

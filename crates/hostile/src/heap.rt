@@ -5,7 +5,7 @@ use std::sync::atomic::{AtomicU64, Ordering};
 
 /// How many growths there are up to the refused one if none is to be refused: more than any test
 /// has.
-const NONE_REFUSED: u64 = 0x4000_0000_0000_0000;
+pub(crate) const NONE_REFUSED: u64 = 0x4000_0000_0000_0000;
 
 /// An allocator that passes each call on to another one, except for one growth of memory, which it
 /// refuses. A call gets a `&` to it, and so do the call's threads: a growth of any of them counts.

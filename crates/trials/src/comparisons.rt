@@ -4,6 +4,7 @@
 use crate::texts::{FIRST_TEXT, joined};
 use mm_against::{ComparisonEnd, run_against};
 use mm_plan::{Cutting, Plan};
+use mm_spec::{Code, Fault};
 use std::alloc::{AllocError, Global};
 use std::sync::Wait;
 use std::thread::Threads;
@@ -87,29 +88,55 @@ fn is_written<R: Threads + Wait + Sync>(
 }
 
 #[test]
-fn what_one_database_has_and_another_has_not(rt: HostRuntime) -> Result<(), AllocError> {
-    for case in &CASES {
+fn what_one_database_has_and_another_has_not(rt: HostRuntime) {
+    for (row, case) in CASES.iter().enumerate() {
         for workers in [1, 3, 64] {
-            assert!(&rt; is_written(&rt, rt.alloc(), workers, case)?);
+            let is_right = is_written(&rt, rt.alloc(), workers, case).unwrap_or(false);
+            assert!(&rt; is_right, "case {row} by {workers} workers");
         }
     }
-    Ok(())
+}
+
+/// Whether a comparison of these texts ends so.
+fn ends_so<R: Threads + Wait + Sync>(
+    rt: &R,
+    alloc: Global,
+    old: &[u8],
+    new: &[u8],
+    expected: ComparisonEnd,
+) -> bool {
+    match compared(rt, alloc, 1, old, new) {
+        Some((end, _)) => end == expected,
+        None => false,
+    }
 }
 
 #[test]
-fn each_end_is_told(rt: HostRuntime) -> Result<(), AllocError> {
+fn each_end_is_told(rt: HostRuntime) {
     let alloc = rt.alloc();
-    match compared(&rt, alloc, 1, FIRST_TEXT, FIRST_TEXT) {
-        Some((ComparisonEnd::Compared, _)) => {}
-        _ => assert!(&rt; false),
-    }
-    match compared(&rt, alloc, 1, b"\x80", b"$c") {
-        Some((ComparisonEnd::OldRefused(fault), _)) => assert_eq!(&rt; fault.at, 0),
-        _ => assert!(&rt; false),
-    }
-    match compared(&rt, alloc, 1, FIRST_TEXT, b"$c") {
-        Some((ComparisonEnd::NewRefused(fault), _)) => assert_eq!(&rt; fault.at, 2),
-        _ => assert!(&rt; false),
-    }
-    Ok(())
+    let bad_byte = Fault {
+        at: 0,
+        code: Code::BadByte,
+    };
+    let unended = Fault {
+        at: 2,
+        code: Code::OpenStatement,
+    };
+    assert!(&rt;
+        ends_so(&rt, alloc, FIRST_TEXT, FIRST_TEXT, ComparisonEnd::Compared)
+            && ends_so(
+                &rt,
+                alloc,
+                b"\x80",
+                b"$c",
+                ComparisonEnd::OldRefused(bad_byte)
+            )
+            && ends_so(
+                &rt,
+                alloc,
+                FIRST_TEXT,
+                b"$c",
+                ComparisonEnd::NewRefused(unended)
+            )
+    );
 }

@@ -1,7 +1,7 @@
 //! Tests of command lines: what the words say, and the texts of help and of faults.
 
 use crate::flags::{BY_ALL_NODES, BY_ESSENTIAL_NODES, WITH_OPEN, WITHOUT_OPEN};
-use mm_line::{Line, LineRefused, line};
+use mm_line::{LineRefused, line};
 use mm_plan::Cutting;
 use mm_spec::{Code, Form, Sections};
 use std::alloc::{AllocError, Global};
@@ -12,23 +12,6 @@ const HELP: &str =
 
 /// The number of pieces and of workers of a line that names none.
 const DEFAULT: u32 = 4;
-
-/// The text with which the words are refused, and whether it is help.
-fn refusal(alloc: Global, words: &[&str]) -> Option<(bool, String)> {
-    match line(alloc, words) {
-        Err(LineRefused::Help(text)) => Some((true, text)),
-        Err(LineRefused::Bad(text)) => Some((false, text)),
-        _ => None,
-    }
-}
-
-/// The numbers of pieces and of workers of a line's plan.
-fn counts(line: &Line) -> Option<(u32, u32)> {
-    match &line.plan.cuts {
-        Cutting::Count(pieces) => Some((*pieces, line.plan.workers)),
-        Cutting::Places(_) => None,
-    }
-}
 
 /// Whether the words are accepted with these values.
 fn is_line_of(
@@ -42,7 +25,12 @@ fn is_line_of(
 ) -> bool {
     match line(alloc, words) {
         Ok(line) => {
-            counts(&line) == Some((pieces, workers))
+            let is_cut_so = match &line.plan.cuts {
+                Cutting::Count(count) => *count == pieces,
+                Cutting::Places(_) => false,
+            };
+            is_cut_so
+                && line.plan.workers == workers
                 && line.plan.only.as_deref() == only
                 && line.plan.choice == sections
                 && line.file.as_deref() == file
@@ -51,72 +39,53 @@ fn is_line_of(
     }
 }
 
+/// Whether the words are accepted with the usual numbers of pieces and of workers, and these
+/// sections, and name this file.
+fn is_usual_line_of(alloc: Global, words: &[&str], sections: Sections, file: Option<&str>) -> bool {
+    is_line_of(alloc, words, DEFAULT, DEFAULT, None, sections, file)
+}
+
 #[test]
 fn defaults_stand_for_what_is_left_out(rt: HostRuntime) {
     let alloc = rt.alloc();
+    let sections = Sections::by_default();
     assert!(&rt;
-        is_line_of(
-            alloc,
-            &["mmdepend"],
-            DEFAULT,
-            DEFAULT,
-            None,
-            Sections::by_default(),
-            None
-        )
-    );
-    assert!(&rt;
-        is_line_of(
-            alloc,
-            &["mmdepend", "set.mm"],
-            DEFAULT,
-            DEFAULT,
-            None,
-            Sections::by_default(),
-            Some("set.mm")
-        )
+        is_usual_line_of(alloc, &["mmdepend"], sections, None)
+            && is_usual_line_of(alloc, &["mmdepend", "set.mm"], sections, Some("set.mm"))
     );
 }
+
+/// Words with options before and after the file.
+const AROUND_THE_FILE: &[&str] = &[
+    "mmdepend",
+    "--workers",
+    "64",
+    "--pieces=1",
+    "set.mm",
+    "--only",
+    "|-",
+    "--report",
+    "usage",
+];
 
 #[test]
 fn options_stand_before_and_after_the_file(rt: HostRuntime) {
     let alloc = rt.alloc();
-    let words = [
-        "mmdepend",
-        "--workers",
-        "64",
-        "--pieces=1",
-        "set.mm",
-        "--only",
-        "|-",
-        "--report",
-        "usage",
-    ];
-    assert!(&rt;
-        is_line_of(
-            alloc,
-            &words,
-            1,
-            64,
-            Some("|-"),
-            Sections {
-                usage: true,
-                ..Sections::none()
-            },
-            Some("set.mm")
-        )
-    );
+    let usage = Sections {
+        usage: true,
+        ..Sections::none()
+    };
     let after = ["mmdepend", "--", "--help"];
     assert!(&rt;
         is_line_of(
             alloc,
-            &after,
-            DEFAULT,
-            DEFAULT,
-            None,
-            Sections::by_default(),
-            Some("--help")
-        )
+            AROUND_THE_FILE,
+            1,
+            64,
+            Some("|-"),
+            usage,
+            Some("set.mm")
+        ) && is_usual_line_of(alloc, &after, Sections::by_default(), Some("--help"))
     );
 }
 
@@ -153,25 +122,18 @@ const REPORTS: [(&str, bool, bool, bool, bool, bool); 12] = [
 
 #[test]
 fn each_part_that_is_named_is_written(rt: HostRuntime) {
-    let alloc = rt.alloc();
-    for (word, matrix, counts, usage, citations, statements) in REPORTS {
+    for (word, matrix, counts, usage, citations, statements) in &REPORTS {
         let sections = Sections {
-            matrix,
-            counts,
-            usage,
-            citations,
-            statements,
+            matrix: *matrix,
+            counts: *counts,
+            usage: *usage,
+            citations: *citations,
+            statements: *statements,
         };
+        let words = ["mmdepend", "--report", *word];
         assert!(&rt;
-            is_line_of(
-                alloc,
-                &["mmdepend", "--report", word],
-                DEFAULT,
-                DEFAULT,
-                None,
-                sections,
-                None
-            )
+            is_usual_line_of(rt.alloc(), &words, sections, None),
+            "{word}"
         );
     }
 }
@@ -216,10 +178,38 @@ fn is_compared_with(
 #[test]
 fn the_file_that_is_compared_with(rt: HostRuntime) {
     let alloc = rt.alloc();
-    assert!(&rt; is_compared_with(alloc, &["mmdepend", "new.mm"], None, Some("new.mm")));
     let both = ["mmdepend", "--against", "old.mm", "new.mm"];
-    assert!(&rt; is_compared_with(alloc, &both, Some("old.mm"), Some("new.mm")));
-    assert!(&rt; is_compared_with(alloc, &["mmdepend", "--against=-"], Some("-"), None));
+    assert!(&rt;
+        is_compared_with(alloc, &["mmdepend", "new.mm"], None, Some("new.mm"))
+            && is_compared_with(alloc, &both, Some("old.mm"), Some("new.mm"))
+            && is_compared_with(alloc, &["mmdepend", "--against=-"], Some("-"), None)
+    );
+}
+
+/// Whether the words are accepted, and ask for this form, these nodes and these open theorems.
+fn has_options(
+    alloc: Global,
+    words: &[&str],
+    form: Form,
+    essential: bool,
+    with_open: bool,
+) -> bool {
+    match line(alloc, words) {
+        Ok(line) => {
+            line.plan.form == form
+                && line.plan.essential == essential
+                && line.plan.with_open == with_open
+        }
+        Err(_) => false,
+    }
+}
+
+#[test]
+fn options_of_the_report(rt: HostRuntime) {
+    for (row, (words, form, essential, with_open)) in REPORT_OPTIONS.iter().enumerate() {
+        let is_right = has_options(rt.alloc(), words, *form, *essential, *with_open);
+        assert!(&rt; is_right, "row {row}");
+    }
 }
 
 /// The texts of some codes.
@@ -229,41 +219,36 @@ const CODE_TEXTS: [(Code, &str); 3] = [
     (Code::NumberTooLarge, "E45"),
 ];
 
-#[test]
-fn a_code_has_two_digits(rt: HostRuntime) -> Result<(), AllocError> {
-    for (code, text) in CODE_TEXTS {
-        let printed = format!(in rt.alloc(); "{code}")?;
-        assert_eq!(&rt; printed.as_str(), text);
-    }
-    Ok(())
+/// Whether a code is printed as this text.
+fn is_printed_as(alloc: Global, code: Code, text: &str) -> Result<bool, AllocError> {
+    let printed = format!(in alloc; "{code}")?;
+    Ok(printed.as_str() == text)
 }
 
 #[test]
-fn options_of_the_report(rt: HostRuntime) {
-    let alloc = rt.alloc();
-    for (words, form, essential, with_open) in REPORT_OPTIONS {
-        match line(alloc, words) {
-            Ok(line) => {
-                assert_eq!(rt; line.plan.form, form);
-                assert_eq!(rt; line.plan.essential, essential);
-                assert_eq!(rt; line.plan.with_open, with_open);
-            }
-            Err(_) => assert!(&rt; false),
-        }
+fn a_code_has_two_digits(rt: HostRuntime) {
+    for (code, text) in &CODE_TEXTS {
+        assert!(&rt;
+            is_printed_as(rt.alloc(), *code, text).unwrap_or(false),
+            "{text}"
+        );
     }
 }
 
-#[test]
-fn the_version_is_told(rt: HostRuntime) {
-    for words in [["mmdepend", "--version"], ["mmdepend", "-V"]] {
-        match refusal(rt.alloc(), &words) {
-            Some((is_help, message)) => {
-                assert!(&rt; is_help);
-                assert!(&rt; message.as_str().starts_with("mmdepend 0.1.0, proved with "));
-                assert!(&rt; message.as_str().ends_with("\n"));
-            }
-            None => assert!(&rt; false),
-        }
+/// The text with which the words are refused, and whether it is help.
+fn refusal(alloc: Global, words: &[&str]) -> Option<(bool, String)> {
+    match line(alloc, words) {
+        Err(LineRefused::Help(text)) => Some((true, text)),
+        Err(LineRefused::Bad(text)) => Some((false, text)),
+        _ => None,
+    }
+}
+
+/// Whether the words are refused with this text, which is help or tells a fault.
+fn is_refused_with(alloc: Global, words: &[&str], is_help: bool, text: &str) -> bool {
+    match refusal(alloc, words) {
+        Some((is_told_as_help, told)) => is_told_as_help == is_help && told.as_str() == text,
+        None => false,
     }
 }
 
@@ -321,27 +306,39 @@ const FAULTS: [(&[&str], &str); 12] = [
 
 #[test]
 fn faults_are_told_by_their_texts(rt: HostRuntime) {
-    let alloc = rt.alloc();
-    for (words, text) in FAULTS {
-        match refusal(alloc, words) {
-            Some((is_help, message)) => {
-                assert!(&rt; !is_help);
-                assert_eq!(rt; message.as_str(), text);
-            }
-            None => assert!(&rt; false),
-        }
+    for (row, (words, text)) in FAULTS.iter().enumerate() {
+        assert!(&rt;
+            is_refused_with(rt.alloc(), words, false, text),
+            "row {row}"
+        );
     }
 }
 
 #[test]
 fn help_has_a_line_for_each_argument(rt: HostRuntime) {
-    for words in [["mmdepend", "--help"], ["mmdepend", "-h"]] {
-        match refusal(rt.alloc(), &words) {
-            Some((is_help, message)) => {
-                assert!(&rt; is_help);
-                assert_eq!(rt; message.as_str(), HELP);
-            }
-            None => assert!(&rt; false),
+    for word in ["--help", "-h"] {
+        assert!(&rt;
+            is_refused_with(rt.alloc(), &["mmdepend", word], true, HELP),
+            "{word}"
+        );
+    }
+}
+
+/// Whether the words are answered by the version.
+fn is_version_told(alloc: Global, words: &[&str]) -> bool {
+    match refusal(alloc, words) {
+        Some((is_help, told)) => {
+            is_help
+                && told.as_str().starts_with("mmdepend 0.1.0, proved with ")
+                && told.as_str().ends_with("\n")
         }
+        None => false,
+    }
+}
+
+#[test]
+fn the_version_is_told(rt: HostRuntime) {
+    for word in ["--version", "-V"] {
+        assert!(&rt; is_version_told(rt.alloc(), &["mmdepend", word]), "{word}");
     }
 }

@@ -25,7 +25,6 @@ use mm_spec::{Code, Fault, Form};
 use mm_stmt::{Database, Kind, Sym, read};
 use mm_work::{Citations, Gate, Judged, Open, check_all};
 use std::alloc::{AllocError, Global};
-use std::process::Abort;
 use std::sync::Wait;
 use std::thread::Threads;
 
@@ -76,45 +75,56 @@ const PROOF_LEN: usize = 5;
 #[test]
 fn bytes(rt: HostRuntime) {
     let block = class_block(&[b' '; 64]);
-    assert!(&rt; block.white == u64::MAX && block.bad == 0);
     let tail = class_tail(b"a \x80");
-    assert!(&rt; tail.white == 2 && tail.bad == 4);
-    assert!(&rt; first_bad(b"a \x80") == Some(2));
-    assert!(&rt; count_lf(b"\na\n") == 2);
+    assert!(&rt;
+        block.white == u64::MAX
+            && block.bad == 0
+            && tail.white == 2
+            && tail.bad == 4
+            && first_bad(b"a \x80") == Some(2)
+            && count_lf(b"\na\n") == 2
+    );
 }
 
-/// Asserts what a piece of the whole text says.
-fn assert_whole<R: Abort>(rt: &R, piece: &Piece<Global>) {
-    assert!(rt; piece.from() == 0 && piece.to() as usize == FIRST_TEXT.len() && !piece.unbroken());
+/// Whether a piece is the summary of the whole text.
+fn is_whole(piece: &Piece<Global>) -> bool {
     let head = piece.head();
     let tail = piece.tail();
-    assert!(rt; head.start == 0 && head.end == 0 && tail.start == TEXT_END && tail.end == TEXT_END);
-    assert!(rt;
-        piece.tokens(OUTSIDE_COMMENT).len() == TOKEN_COUNT && piece.fault(OUTSIDE_COMMENT) == None
-    );
-    assert!(rt; piece.tokens(INSIDE_COMMENT).is_empty());
+    piece.from() == 0
+        && piece.to() as usize == FIRST_TEXT.len()
+        && !piece.unbroken()
+        && head.start == 0
+        && head.end == 0
+        && tail.start == TEXT_END
+        && tail.end == TEXT_END
+        && piece.tokens(OUTSIDE_COMMENT).len() == TOKEN_COUNT
+        && piece.fault(OUTSIDE_COMMENT) == None
+        && piece.tokens(INSIDE_COMMENT).is_empty()
 }
 
 #[test]
 fn pieces(rt: HostRuntime) -> Result<(), AllocError> {
     let first = lex_piece(rt.alloc(), FIRST_TEXT, 0, 60)?;
     let second = lex_piece(rt.alloc(), FIRST_TEXT, 60, FIRST_TEXT.len())?;
-    let whole = join(rt.alloc(), FIRST_TEXT, first, second)?;
-    assert_whole(&rt, &whole);
+    assert!(&rt; is_whole(&join(rt.alloc(), FIRST_TEXT, first, second)?));
     Ok(())
+}
+
+/// Whether the half of the text is given as the place of the one cut.
+fn is_given(alloc: Global, equal: &Cuts<Global>) -> Result<bool, AllocError> {
+    let places = [FIRST_TEXT.len() as u32 / 2].as_slice().to_vec(alloc)?;
+    match Cuts::from_places(places, FIRST_TEXT.len()) {
+        Ok(given) => Ok(given.places() == equal.places()),
+        Err(_) => Ok(false),
+    }
 }
 
 #[test]
 fn cuts(rt: HostRuntime) -> Result<(), AllocError> {
     let equal = Cuts::equal(rt.alloc(), FIRST_TEXT.len(), 2)?;
     let lexed = lex(&rt, rt.alloc(), FIRST_TEXT, &equal)?;
-    assert!(&rt; lexed.tokens.len() == TOKEN_COUNT && lexed.fault == None);
-    let half = FIRST_TEXT.len() as u32 / 2;
-    let places = [half].as_slice().to_vec(rt.alloc())?;
-    match Cuts::from_places(places, FIRST_TEXT.len()) {
-        Ok(given) => assert!(&rt; given.places() == equal.places()),
-        Err(_) => assert!(&rt; false),
-    }
+    let is_equal = is_given(rt.alloc(), &equal)?;
+    assert!(&rt; is_equal && lexed.tokens.len() == TOKEN_COUNT && lexed.fault == None);
     Ok(())
 }
 
@@ -128,70 +138,75 @@ fn database_of<R: Threads + Sync>(
     read(alloc, FIRST_TEXT, &lexed, WITHOUT_OPEN)
 }
 
-/// Asserts what is said of the statement with the first axiom.
-fn assert_axiom<R: Abort>(rt: &R, database: &Database<Global>) {
-    assert!(rt;
-        database.len() == STATEMENT_COUNT
-            && database.kind(WI) == Kind::Axiom
-            && !database.is_open(WI)
-    );
-    assert!(rt; database.end_at(WI) == WI_END && database.find(b"wi") == Some(WI));
-    assert!(rt; database.label(WI) == Some(b"wi".as_slice()));
-    assert!(rt;
-        database.formula(WI).len() == WI_LEN && database.typecode(WI) == Some(Sym::new(WFF))
-    );
-    assert!(rt; database.active_at(WI, AX_1) && !database.active_at(WI, WI));
-    assert!(rt; is_assertion(database, WI));
+/// Whether this is said of the statement with the first axiom.
+fn is_axiom_right(database: &Database<Global>) -> bool {
+    if database.len() != STATEMENT_COUNT || !is_assertion(database, WI) {
+        return false;
+    }
     let frame = database.frame(WI);
-    assert!(rt; frame.hyps.as_slice() == [WP, WQ].as_slice() && frame.pairs.is_empty());
+    frame.hyps.as_slice() == [WP, WQ].as_slice()
+        && frame.pairs.is_empty()
+        && database.kind(WI) == Kind::Axiom
+        && !database.is_open(WI)
+        && database.end_at(WI) == WI_END
+        && database.find(b"wi") == Some(WI)
+        && database.label(WI) == Some(b"wi".as_slice())
+        && database.formula(WI).len() == WI_LEN
+        && database.typecode(WI) == Some(Sym::new(WFF))
+        && database.active_at(WI, AX_1)
+        && !database.active_at(WI, WI)
 }
 
-/// Asserts what is said of the symbols.
-fn assert_symbols<R: Abort>(rt: &R, database: &Database<Global>) {
-    assert!(rt; database.symbol_count() == SYMBOL_COUNT);
-    assert!(rt; database.name(Sym::new(ARROW)) == b"->".as_slice());
-    assert!(rt; !database.is_variable(Sym::new(ARROW)));
-}
-
-/// Asserts what is said of the statement with the theorem.
-fn assert_theorem<R: Abort>(rt: &R, database: &Database<Global>) {
-    assert!(rt; database.len() == STATEMENT_COUNT);
-    assert!(rt; !database.disjoint_at(WI2, Sym::new(P), Sym::new(Q)));
-    assert!(rt; database.proof_words(WI2).len() == PROOF_LEN);
+/// Whether this is said of the symbols, and of the statement with the theorem.
+fn is_theorem_right(database: &Database<Global>) -> bool {
+    database.len() == STATEMENT_COUNT
+        && database.symbol_count() == SYMBOL_COUNT
+        && database.name(Sym::new(ARROW)) == b"->".as_slice()
+        && !database.is_variable(Sym::new(ARROW))
+        && !database.disjoint_at(WI2, Sym::new(P), Sym::new(Q))
+        && database.proof_words(WI2).len() == PROOF_LEN
 }
 
 #[test]
 fn statements(rt: HostRuntime) -> Result<(), AllocError> {
     let database = database_of(&rt, rt.alloc())?;
-    assert!(&rt; database.text() == FIRST_TEXT && database.fault() == None);
-    assert_axiom(&rt, &database);
-    assert_symbols(&rt, &database);
-    assert_theorem(&rt, &database);
-    assert!(&rt; database.theorems() == [WI2].as_slice());
-    assert!(&rt; database.axioms() == [WI, AX_1].as_slice());
+    assert!(&rt;
+        database.text() == FIRST_TEXT
+            && database.fault() == None
+            && is_axiom_right(&database)
+            && is_theorem_right(&database)
+            && database.theorems() == [WI2].as_slice()
+            && database.axioms() == [WI, AX_1].as_slice()
+    );
     Ok(())
+}
+
+/// Whether the proof of the theorem is read and checked.
+fn is_proof_right(alloc: Global, database: &Database<Global>) -> bool {
+    let theorems = database.theorems();
+    if theorems.is_empty() {
+        return false;
+    }
+    let theorem = theorems[theorems.len() - 1];
+    let Ok(steps) = read_proof(alloc, database, theorem) else {
+        return false;
+    };
+    let are_right = steps.theorem() == WI2
+        && steps.len() == PROOF_LEN
+        && steps.step(0) == Step::Label(WP)
+        && steps.place(0) == FIRST_STEP_PLACE;
+    match check(alloc, database, theorem, &steps, BY_ALL_NODES) {
+        Ok(checked) => {
+            are_right && checked.theorem() == WI2 && checked.cites() == [WI].as_slice()
+        }
+        Err(_) => false,
+    }
 }
 
 #[test]
 fn proofs(rt: HostRuntime) -> Result<(), AllocError> {
     let database = database_of(&rt, rt.alloc())?;
-    let theorems = database.theorems();
-    if theorems.is_empty() {
-        return Err(AllocError);
-    }
-    let theorem = theorems[theorems.len() - 1];
-    let Ok(steps) = read_proof(rt.alloc(), &database, theorem) else {
-        return Err(AllocError);
-    };
-    assert!(&rt; steps.theorem() == WI2 && steps.len() == PROOF_LEN);
-    assert!(&rt; steps.step(0) == Step::Label(WP) && steps.place(0) == FIRST_STEP_PLACE);
-    match check(rt.alloc(), &database, theorem, &steps, BY_ALL_NODES) {
-        Ok(checked) => {
-            assert!(&rt; checked.theorem() == WI2 && checked.cites() == [WI].as_slice());
-        }
-        Err(_) => assert!(&rt; false),
-    }
-    assert!(&rt; number(b"UA") == Some(21));
+    assert!(&rt; is_proof_right(rt.alloc(), &database) && number(b"UA") == Some(21));
     Ok(())
 }
 
@@ -203,20 +218,20 @@ fn board(rt: HostRuntime) -> Result<(), AllocError> {
     let Ok(mut second) = board.split(&mut first) else {
         return Err(AllocError);
     };
-    assert!(&rt; first.share() == 63 && second.share() == 1);
-    assert!(&rt; first.held() == None && !first.is_over());
-    assert!(&rt; board.claim(&mut first) == Some(0));
-    assert!(&rt; first.held() == Some(0));
+    let are_new = first.share() == 63
+        && second.share() == 1
+        && first.held() == None
+        && !first.is_over();
+    assert!(&rt; are_new && board.claim(&mut first) == Some(0) && first.held() == Some(0));
     board.settle(&mut first, 0);
-    assert!(&rt; second.held() == None && !second.is_over());
-    assert!(&rt; board.claim(&mut second) == Some(1));
-    assert!(&rt; board.look(&mut second) == 2);
-    assert!(&rt; second.held() == Some(1));
+    let is_idle = second.held() == None && !second.is_over();
+    assert!(&rt; is_idle && board.claim(&mut second) == Some(1));
+    assert!(&rt; board.look(&mut second) == 2 && second.held() == Some(1));
     board.report(&mut second, 1);
-    assert!(&rt; second.seen() == 1 && second.held() == None);
+    let is_reported = second.seen() == 1 && second.held() == None;
     board.join(&mut first, second);
     let closed = board.close(first);
-    assert!(&rt; closed == (1, 1));
+    assert!(&rt; is_reported && closed == (1, 1));
     Ok(())
 }
 
@@ -240,31 +255,59 @@ fn citations_of<R: Threads + Wait + Sync>(
     }
 }
 
+/// Whether the theorems of the text cite this, in this wave.
+fn are_citations_right(alloc: Global, citations: &Citations<Global>) -> bool {
+    let are_right = citations.rows() == 1
+        && citations.theorem(0) == WI2
+        && citations.of(0) == [WI].as_slice();
+    match waves(alloc, citations) {
+        Ok(waves) => are_right && waves.as_slice() == [0u32].as_slice(),
+        Err(_) => false,
+    }
+}
+
 #[test]
 fn citations(rt: HostRuntime) -> Result<(), AllocError> {
     enter(&Open);
     let database = database_of(&rt, rt.alloc())?;
-    let citations = citations_of(&rt, rt.alloc(), &database)?;
-    assert!(&rt; citations.rows() == 1 && citations.theorem(0) == WI2);
-    assert!(&rt; citations.of(0) == [WI].as_slice());
-    let waves = waves(rt.alloc(), &citations)?;
-    assert!(&rt; waves.as_slice() == [0u32].as_slice());
+    let is_right = match citations_of(&rt, rt.alloc(), &database) {
+        Ok(citations) => are_citations_right(rt.alloc(), &citations),
+        Err(_) => false,
+    };
+    assert!(&rt; is_right);
     Ok(())
+}
+
+/// Whether the matrix has the one mark.
+fn is_matrix_right(matrix: &Matrix<Global>) -> bool {
+    matrix.rows() == 1
+        && matrix.columns() == 1
+        && matrix.cell(0, 0)
+        && matrix.row_count(0) == 1
+        && matrix.column_count(0) == 1
+        && matrix.next_user(0, None) == Some(0)
+        && matrix.digit(0, 0) == 8
+}
+
+/// Whether the columns and the matrix of one typecode are right.
+fn are_rows_right<R: Threads + Wait + Sync>(
+    rt: &R,
+    alloc: Global,
+    database: &Database<Global>,
+) -> Result<bool, AllocError> {
+    let columns = Columns::new(alloc, database, Some(b"wff"))?;
+    let citations = citations_of(rt, alloc, database)?;
+    let matrix = matrix(rt, alloc, &citations, &columns)?;
+    Ok(columns.len() == 1 && columns.statement(0) == WI && is_matrix_right(&matrix))
 }
 
 #[test]
 fn rows(rt: HostRuntime) -> Result<(), AllocError> {
     let mut row = [1u64];
     or_row(&mut row, &[6]);
-    assert!(&rt; ones(&row) == 3);
     let database = database_of(&rt, rt.alloc())?;
-    let citations = citations_of(&rt, rt.alloc(), &database)?;
-    let columns = Columns::new(rt.alloc(), &database, Some(b"wff"))?;
-    assert!(&rt; columns.len() == 1 && columns.statement(0) == WI);
-    let matrix = matrix(&rt, rt.alloc(), &citations, &columns)?;
-    assert!(&rt; matrix.rows() == 1 && matrix.columns() == 1 && matrix.cell(0, 0));
-    assert!(&rt; matrix.row_count(0) == 1 && matrix.column_count(0) == 1);
-    assert!(&rt; matrix.next_user(0, None) == Some(0) && matrix.digit(0, 0) == 8);
+    let are_right = are_rows_right(&rt, rt.alloc(), &database).unwrap_or(false);
+    assert!(&rt; are_right && ones(&row) == 3);
     Ok(())
 }
 
@@ -324,8 +367,10 @@ fn reports(rt: HostRuntime) -> Result<(), AllocError> {
     let citations = citations_of(&rt, alloc, &database)?;
     let columns = Columns::new(alloc, &database, None)?;
     let matrix = matrix(&rt, alloc, &citations, &columns)?;
-    assert!(&rt; is_report_written(alloc, &database, &columns, &matrix));
-    assert!(&rt; are_citations_written(alloc, &database, &columns, &citations));
+    assert!(&rt;
+        is_report_written(alloc, &database, &columns, &matrix)
+            && are_citations_written(alloc, &database, &columns, &citations)
+    );
     Ok(())
 }
 
@@ -336,24 +381,27 @@ fn refusals(rt: HostRuntime) {
         at: 0,
         code: Code::BadByte,
     };
-    assert!(&rt; write_refusal(&mut refusal, b"\x80", &fault).is_ok());
-    assert!(&rt; refusal.as_slice() == b"refused 1:1 E01\n".as_slice());
+    let is_written = write_refusal(&mut refusal, b"\x80", &fault).is_ok();
+    assert!(&rt; is_written && refusal.as_slice() == b"refused 1:1 E01\n".as_slice());
 }
 
 #[test]
 fn runs(rt: HostRuntime) {
     let plan = Plan::without_options(Cutting::Places(Vec::new(rt.alloc())), 1);
-    assert!(&rt; plan.is_lawful());
     let mut from = FIRST_TEXT;
     let mut to = Vec::new(rt.alloc());
-    assert!(&rt; run(&rt, rt.alloc(), &plan, &mut from, &mut to) == RunEnd::Accepted);
-    assert!(&rt; to.as_slice() == FIRST_REPORT);
+    assert!(&rt;
+        plan.is_lawful()
+            && run(&rt, rt.alloc(), &plan, &mut from, &mut to) == RunEnd::Accepted
+            && to.as_slice() == FIRST_REPORT
+    );
 }
 
 #[test]
 fn lines(rt: HostRuntime) {
-    match line(rt.alloc(), &["mmdepend", "--workers", "2", "b.mm"]) {
-        Ok(line) => assert!(&rt; line.plan.workers == 2 && line.file.as_deref() == Some("b.mm")),
-        Err(_) => assert!(&rt; false),
-    }
+    let is_right = match line(rt.alloc(), &["mmdepend", "--workers", "2", "b.mm"]) {
+        Ok(line) => line.plan.workers == 2 && line.file.as_deref() == Some("b.mm"),
+        Err(_) => false,
+    };
+    assert!(&rt; is_right);
 }

@@ -9,10 +9,9 @@ use crate::texts::{
     ANOTHER_FAULTY, BASE, FIRST_FAULT_PLACE, FIRST_FAULTY, LONG_FAULTY, NONE_FAULTY, SHORT_FAULTY,
     THEOREM_COUNT, joined, many_theorems_text, through_a_theorem,
 };
-use mm_spec::{Code, Fault};
+use mm_spec::Code;
 use mm_work::{Citations, Gate, Judged, Open, check_all};
 use std::alloc::{AllocError, Global};
-use std::process::Abort;
 use std::sync::Wait;
 use std::sync::atomic::{AtomicU64, Ordering};
 use std::thread;
@@ -22,75 +21,104 @@ use std::thread::Threads;
 const MOST_TURNS: u32 = 10_000_000;
 
 /// What checking the proofs of a text finds.
-fn check_proofs<R: Threads + Wait + Sync, G: Gate>(
+#[derive(Clone, Copy)]
+enum Finding {
+    /// They are valid, and these are the citations of the text with two theorems.
+    CitesThroughATheorem,
+    /// They are valid, and each of the many theorems cites the same assertion.
+    ManyCiteOne,
+    /// At this place a proof ends with another number of entries than one.
+    FaultAt(u32),
+}
+
+/// Whether these are the citations of the two theorems, by their statements.
+fn cites_through_a_theorem(citations: &Citations<Global>) -> bool {
+    citations.rows() == 2
+        && citations.theorems() == [13u32, 17].as_slice()
+        && citations.theorem(0) == 13
+        && citations.of(0) == [4u32, 5, 9].as_slice()
+        && citations.theorem(1) == 17
+        && citations.of(1) == [4u32, 13].as_slice()
+}
+
+/// Whether each of the many theorems cites the same assertion.
+fn many_cite_one(citations: &Citations<Global>) -> bool {
+    for row in 0..citations.rows() {
+        if citations.theorem(row) != row + 6 || citations.of(row) != [4u32].as_slice() {
+            return false;
+        }
+    }
+    citations.rows() == THEOREM_COUNT
+}
+
+/// Whether this was found.
+fn is_so(judged: &Judged<Global>, finding: Finding) -> bool {
+    match (judged, finding) {
+        (Judged::Valid(citations), Finding::CitesThroughATheorem) => {
+            cites_through_a_theorem(citations)
+        }
+        (Judged::Valid(citations), Finding::ManyCiteOne) => many_cite_one(citations),
+        (Judged::Faulty(fault), Finding::FaultAt(at)) => {
+            fault.at == at && fault.code == Code::NotOneEntry
+        }
+        _ => false,
+    }
+}
+
+/// Whether checking the proofs of a text finds this, if there is memory for the text and the check.
+fn is_found<R: Threads + Wait + Sync, G: Gate>(
     rt: &R,
     alloc: Global,
-    text: &[u8],
+    text: Result<Vec<u8>, AllocError>,
+    finding: Finding,
     workers: u32,
-    essential: bool,
     gate: &G,
-) -> Result<Judged<Global>, AllocError>
+) -> bool
     requires { (1 ≤ workers) × (workers ≤ 64) }
 {
-    let database = database_of(rt, alloc, text, WITHOUT_OPEN)?;
-    check_all(rt, alloc, &database, workers, essential, gate)
-}
-
-/// Whether the first fault has this place and code.
-fn is_faulty_at(judged: &Judged<Global>, at: u32, code: Code) -> bool {
-    match judged {
-        Judged::Valid(_) => false,
-        Judged::Faulty(fault) => *fault == Fault { at, code },
-    }
-}
-
-/// Asserts that these are the citations of the two theorems, by their statements.
-fn assert_cites_through_a_theorem<R: Abort>(rt: &R, citations: &Citations<Global>) {
-    assert_eq!(rt; citations.rows(), 2);
-    assert_eq!(rt; citations.theorems(), [13u32, 17].as_slice());
-    assert_eq!(rt; citations.theorem(0), 13);
-    assert_eq!(rt; citations.of(0), [4u32, 5, 9].as_slice());
-    assert_eq!(rt; citations.theorem(1), 17);
-    assert_eq!(rt; citations.of(1), [4u32, 13].as_slice());
-}
-
-/// Asserts that each of the many theorems cites the same assertion.
-fn assert_many_cite_one<R: Abort>(rt: &R, citations: &Citations<Global>) {
-    assert_eq!(rt; citations.rows(), THEOREM_COUNT);
-    for row in 0..citations.rows() {
-        assert_eq!(rt; citations.theorem(row), row + 6);
-        assert_eq!(rt; citations.of(row), [4u32].as_slice());
+    let Ok(text) = text else {
+        return false;
+    };
+    let Ok(database) = database_of(rt, alloc, &text, WITHOUT_OPEN) else {
+        return false;
+    };
+    match check_all(rt, alloc, &database, workers, BY_ALL_NODES, gate) {
+        Ok(judged) => is_so(&judged, finding),
+        Err(_) => false,
     }
 }
 
 #[test]
-fn two_theorems_by_any_workers(rt: HostRuntime) -> Result<(), AllocError> {
-    let valid = through_a_theorem(rt.alloc())?;
-    let faulty = joined(rt.alloc(), &[BASE, LONG_FAULTY, SHORT_FAULTY])?;
+fn two_theorems_by_any_workers(rt: HostRuntime) {
+    let alloc = rt.alloc();
+    let fault = Finding::FaultAt(BASE.len() as u32 + 47);
     for workers in [1, 2, 64] {
-        match check_proofs(&rt, rt.alloc(), &valid, workers, BY_ALL_NODES, &Open)? {
-            Judged::Valid(citations) => assert_cites_through_a_theorem(&rt, &citations),
-            Judged::Faulty(fault) => panic!(&rt; "a fault at {}", fault.at),
-        }
-        let judged_faulty = check_proofs(&rt, rt.alloc(), &faulty, workers, BY_ALL_NODES, &Open)?;
-        assert!(&rt; is_faulty_at(&judged_faulty, BASE.len() as u32 + 47, Code::NotOneEntry));
+        let valid = through_a_theorem(alloc);
+        let faulty = joined(alloc, &[BASE, LONG_FAULTY, SHORT_FAULTY]);
+        let is_valid = is_found(
+            &rt,
+            alloc,
+            valid,
+            Finding::CitesThroughATheorem,
+            workers,
+            &Open,
+        );
+        let is_faulty = is_found(&rt, alloc, faulty, fault, workers, &Open);
+        assert!(&rt; is_valid && is_faulty, "{workers} workers");
     }
-    Ok(())
 }
 
 #[test]
-fn many_theorems_by_any_workers(rt: HostRuntime) -> Result<(), AllocError> {
-    let valid = many_theorems_text(rt.alloc(), NONE_FAULTY)?;
-    let faulty = many_theorems_text(rt.alloc(), &[FIRST_FAULTY, ANOTHER_FAULTY])?;
+fn many_theorems_by_any_workers(rt: HostRuntime) {
+    let alloc = rt.alloc();
+    let fault = Finding::FaultAt(FIRST_FAULT_PLACE);
     for workers in [1, 2, 64] {
-        match check_proofs(&rt, rt.alloc(), &valid, workers, BY_ALL_NODES, &Open)? {
-            Judged::Valid(citations) => assert_many_cite_one(&rt, &citations),
-            Judged::Faulty(fault) => panic!(&rt; "a fault at {}", fault.at),
-        }
-        let judged_faulty = check_proofs(&rt, rt.alloc(), &faulty, workers, BY_ALL_NODES, &Open)?;
-        assert!(&rt; is_faulty_at(&judged_faulty, FIRST_FAULT_PLACE, Code::NotOneEntry));
+        let valid = many_theorems_text(alloc, NONE_FAULTY);
+        let faulty = many_theorems_text(alloc, &[FIRST_FAULTY, ANOTHER_FAULTY]);
+        let is_valid = is_found(&rt, alloc, valid, Finding::ManyCiteOne, workers, &Open);
+        let is_faulty = is_found(&rt, alloc, faulty, fault, workers, &Open);
+        assert!(&rt; is_valid && is_faulty, "{workers} workers");
     }
-    Ok(())
 }
 
 /// A gate at which each worker's first call waits until all workers have come, for at most
@@ -147,25 +175,24 @@ impl Gate for Meeting {
 }
 
 #[test]
-fn two_at_the_gate(rt: HostRuntime) -> Result<(), AllocError> {
-    let text = through_a_theorem(rt.alloc())?;
+fn two_at_the_gate(rt: HostRuntime) {
+    let text = through_a_theorem(rt.alloc());
     let gate = Meeting::of(0b11);
-    match check_proofs(&rt, rt.alloc(), &text, 2, BY_ALL_NODES, &gate)? {
-        Judged::Valid(citations) => assert_cites_through_a_theorem(&rt, &citations),
-        Judged::Faulty(fault) => panic!(&rt; "a fault at {}", fault.at),
-    }
-    assert!(&rt; gate.was_held());
-    Ok(())
+    let is_valid = is_found(
+        &rt,
+        rt.alloc(),
+        text,
+        Finding::CitesThroughATheorem,
+        2,
+        &gate,
+    );
+    assert!(&rt; is_valid && gate.was_held());
 }
 
 #[test]
-fn four_at_the_gate(rt: HostRuntime) -> Result<(), AllocError> {
-    let text = many_theorems_text(rt.alloc(), NONE_FAULTY)?;
+fn four_at_the_gate(rt: HostRuntime) {
+    let text = many_theorems_text(rt.alloc(), NONE_FAULTY);
     let gate = Meeting::of(0b1111);
-    match check_proofs(&rt, rt.alloc(), &text, 4, BY_ALL_NODES, &gate)? {
-        Judged::Valid(citations) => assert_many_cite_one(&rt, &citations),
-        Judged::Faulty(fault) => panic!(&rt; "a fault at {}", fault.at),
-    }
-    assert!(&rt; gate.was_held());
-    Ok(())
+    let is_valid = is_found(&rt, rt.alloc(), text, Finding::ManyCiteOne, 4, &gate);
+    assert!(&rt; is_valid && gate.was_held());
 }

@@ -3,68 +3,18 @@
 ghost use Rattle.std.specs.Prelude.{IfSome, false};
 ghost use Rattle.mm_run.specs.Judging.{IsJudgedText};
 
-use super::proofs::{are_cited, database_of, is_judged};
-use super::reading::is_lexed;
+use super::proofs::are_cited;
 use super::{MOST_GROWTHS, WITHOUT_OPEN, was_refused};
+use crate::calls::BY_ALL_NODES;
 use crate::heap::Refusing;
-use crate::texts::{CITED_TWICE, CITED_TWICE_REPORT, CITED_TWICE_STATEMENTS, FIRST_TEXT};
-use mm_lex::lex_alone;
+use crate::texts::{CITED_TWICE, CITED_TWICE_REPORT, CITED_TWICE_STATEMENTS};
 use mm_run::{JudgedText, RunEnd, judge_alone, write_judged};
 use mm_spec::{Request, Sections, TEXT_LIMIT};
-use mm_stmt::Database;
-use mm_work::check_alone;
-use std::alloc::{AllocError, Allocator, Global};
+use std::alloc::{Allocator, Global};
 use std::process::Abort;
 
-/// A theorem cites by all nodes of its proof.
-const BY_ALL_NODES: bool = false;
-
-#[test]
-fn lexing_alone_without_memory(rt: HostRuntime) {
-    let heap = Refusing::new(rt.alloc());
-    for growth in 1..MOST_GROWTHS {
-        heap.refuse(growth);
-        let refused = was_refused(&rt, &heap, is_lexed(lex_alone(&heap, FIRST_TEXT)));
-        assert!(&rt; is_lexed(lex_alone(&heap, FIRST_TEXT)) == Some(true));
-        if !refused {
-            assert!(&rt; growth > 1);
-            return;
-        }
-    }
-    assert!(&rt; false);
-}
-
-/// Refuses each growth of checking all proofs on one thread in turn.
-fn checked_alone_in_turn<'h, R: Abort>(
-    rt: &R,
-    heap: &'h Refusing<Global>,
-    database: &Database<'static, &'h Refusing<Global>>,
-) -> bool {
-    for growth in 1..MOST_GROWTHS {
-        heap.refuse(growth);
-        let refused = was_refused(
-            rt,
-            heap,
-            is_judged(check_alone(heap, database, BY_ALL_NODES)),
-        );
-        assert!(rt; is_judged(check_alone(heap, database, BY_ALL_NODES)) == Some(true));
-        if !refused {
-            return growth > 10;
-        }
-    }
-    false
-}
-
-#[test]
-fn all_proofs_checked_alone_without_memory(rt: HostRuntime) -> Result<(), AllocError> {
-    let heap = Refusing::new(rt.alloc());
-    let database = database_of(&rt, &heap)?;
-    assert!(&rt; checked_alone_in_turn(&rt, &heap, &database));
-    Ok(())
-}
-
 /// What judging a text comes to. `None` if the text is too long or there is no memory.
-fn judged<'a, A: Allocator + Copy>(alloc: A, text: &'a [u8]) -> Option<JudgedText<'a, A>>
+pub(crate) fn judged<'a, A: Allocator + Copy>(alloc: A, text: &'a [u8]) -> Option<JudgedText<'a, A>>
     ensures { IfSome result (IsJudgedText text.now false false) }
 {
     if text.len() > TEXT_LIMIT {
@@ -74,28 +24,13 @@ fn judged<'a, A: Allocator + Copy>(alloc: A, text: &'a [u8]) -> Option<JudgedTex
 }
 
 /// Whether this is what judging the text with two theorems comes to.
-fn is_sound<A: Allocator>(answer: Option<JudgedText<'_, A>>) -> Option<bool> {
+pub(crate) fn is_sound<A: Allocator>(answer: Option<JudgedText<'_, A>>) -> Option<bool> {
     match answer? {
         JudgedText::Sound(database, citations) => {
             Some(database.text() == CITED_TWICE && are_cited(&citations))
         },
         JudgedText::Faulty(_) => Some(false),
     }
-}
-
-#[test]
-fn a_text_judged_alone_without_memory(rt: HostRuntime) {
-    let heap = Refusing::new(rt.alloc());
-    for growth in 1..MOST_GROWTHS {
-        heap.refuse(growth);
-        let refused = was_refused(&rt, &heap, is_sound(judged(&heap, CITED_TWICE)));
-        assert!(&rt; is_sound(judged(&heap, CITED_TWICE)) == Some(true));
-        if !refused {
-            assert!(&rt; growth > 20);
-            return;
-        }
-    }
-    assert!(&rt; false);
 }
 
 /// The report on what the two theorems rest on, without its columns.
@@ -156,48 +91,43 @@ fn written_in_turn<'h, R: Abort>(
     false
 }
 
+/// Sections, by whether the matrix, the counts, the usage, the citations and the statements are
+/// among them, and what is written for them.
+const OUTPUTS: [(bool, bool, bool, bool, bool, &[u8]); 5] = [
+    (true, true, true, false, false, CITED_TWICE_REPORT),
+    (true, false, false, false, false, MATRIX),
+    (false, false, false, true, false, CITATIONS),
+    (false, false, true, true, false, USAGE_AND_CITATIONS),
+    (false, false, false, false, true, CITED_TWICE_STATEMENTS),
+];
+
+/// Refuses each growth of writing each output in turn.
+fn assert_outputs_right<'h, R: Abort>(
+    rt: &R,
+    heap: &'h Refusing<Global>,
+    memory: Global,
+    text: &[u8],
+    judged: &JudgedText<'_, &'h Refusing<Global>>,
+)
+    requires { IsJudgedText text.now false false judged.now }
+{
+    for (matrix, counts, usage, citations, statements, output) in OUTPUTS {
+        let sections = Sections {
+            matrix,
+            counts,
+            usage,
+            citations,
+            statements,
+        };
+        assert!(rt; written_in_turn(rt, heap, memory, text, judged, sections, output));
+    }
+}
+
 #[test]
 fn outputs_of_a_judged_text_written_without_memory(rt: HostRuntime) {
-    let memory = rt.alloc();
-    let heap = Refusing::new(memory);
-    let text = CITED_TWICE;
-    let Some(judged) = judged(&heap, text) else {
-        assert!(&rt; false);
-        return;
-    };
-    let rows = [
-        (Sections::by_default(), CITED_TWICE_REPORT),
-        (
-            Sections {
-                matrix: true,
-                ..Sections::none()
-            },
-            MATRIX,
-        ),
-        (
-            Sections {
-                citations: true,
-                ..Sections::none()
-            },
-            CITATIONS,
-        ),
-        (
-            Sections {
-                usage: true,
-                citations: true,
-                ..Sections::none()
-            },
-            USAGE_AND_CITATIONS,
-        ),
-        (
-            Sections {
-                statements: true,
-                ..Sections::none()
-            },
-            CITED_TWICE_STATEMENTS,
-        ),
-    ];
-    for (sections, output) in rows {
-        assert!(&rt; written_in_turn(&rt, &heap, memory, text, &judged, sections, output));
+    let heap = Refusing::new(rt.alloc());
+    match judged(&heap, CITED_TWICE) {
+        Some(judged) => assert_outputs_right(&rt, &heap, rt.alloc(), CITED_TWICE, &judged),
+        None => assert!(&rt; false),
     }
 }

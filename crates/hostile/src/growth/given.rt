@@ -14,6 +14,7 @@ use mm_lex::{Cuts, Lexed, join, lex, lex_piece};
 use mm_spec::TEXT_LIMIT;
 use mm_stmt::{Database, Sym, read_alone};
 use std::alloc::{AllocError, Allocator, Global};
+use std::process::Abort;
 use std::thread::Threads;
 
 /// How many bytes the heap has, which is more than any of these calls takes.
@@ -55,51 +56,91 @@ fn has_disjoint_variables<A: Allocator>(
     }
 }
 
+/// Reads statements with a growth refused. Asserts that the tokens are given back and the text is as
+/// it was. Returns whether there was such a growth.
+fn are_tokens_given_back<'h, R: Abort + Threads + Sync>(
+    rt: &R,
+    alloc: Global,
+    local: &LocalHeap,
+    heap: &'h Refusing<&'h LocalHeap>,
+    text: &[u8],
+    growth: u64,
+) -> Result<bool, AllocError> {
+    let unused = local.used();
+    let lexed = lexed_in(rt, alloc, heap, text)?;
+    assert!(rt; local.used() > unused);
+    heap.refuse(growth);
+    let is_right = has_disjoint_variables(read_alone(heap, text, lexed, WITHOUT_OPEN));
+    let refused = was_refused(rt, heap, is_right);
+    assert!(rt; local.used() == unused && text == DISJOINT);
+    Ok(refused)
+}
+
+/// Refuses each growth of reading statements in turn.
+fn tokens_in_turn<'h, R: Abort + Threads + Sync>(
+    rt: &R,
+    alloc: Global,
+    local: &LocalHeap,
+    heap: &'h Refusing<&'h LocalHeap>,
+    text: &[u8],
+) -> bool {
+    for growth in 1..MOST_GROWTHS {
+        match are_tokens_given_back(rt, alloc, local, heap, text, growth) {
+            Ok(true) => {}
+            Ok(false) => return growth > 10,
+            Err(_) => return false,
+        }
+    }
+    false
+}
+
 #[test]
 fn tokens_are_given_back_and_the_text_is_as_it_was(rt: HostRuntime) -> Result<(), AllocError> {
     let local = LocalHeap::new(rt.alloc(), HEAP_SIZE)?;
     let heap = Refusing::new(&local);
     let text = DISJOINT.to_vec(rt.alloc())?;
+    assert!(&rt; tokens_in_turn(&rt, rt.alloc(), &local, &heap, &text));
+    Ok(())
+}
+
+/// Joins two pieces with a growth refused. Asserts that both are given back. Returns whether there
+/// was such a growth.
+fn are_pieces_given_back<'h, R: Abort>(
+    rt: &R,
+    local: &LocalHeap,
+    heap: &'h Refusing<&'h LocalHeap>,
+    growth: u64,
+) -> Result<bool, AllocError> {
     let unused = local.used();
+    let first = lex_piece(heap, FIRST_TEXT, 0, CUT_AT)?;
+    let second = lex_piece(heap, FIRST_TEXT, CUT_AT, FIRST_TEXT.len())?;
+    assert!(rt; local.used() > unused);
+    heap.refuse(growth);
+    let refused = was_refused(rt, heap, is_summary(join(heap, FIRST_TEXT, first, second)));
+    assert!(rt; local.used() == unused);
+    Ok(refused)
+}
+
+/// Refuses each growth of joining in turn.
+fn pieces_in_turn<'h, R: Abort>(
+    rt: &R,
+    local: &LocalHeap,
+    heap: &'h Refusing<&'h LocalHeap>,
+) -> bool {
     for growth in 1..MOST_GROWTHS {
-        let lexed = lexed_in(&rt, rt.alloc(), &heap, &text)?;
-        assert!(&rt; local.used() > unused);
-        heap.refuse(growth);
-        let refused = was_refused(
-            &rt,
-            &heap,
-            has_disjoint_variables(read_alone(&heap, &text, lexed, WITHOUT_OPEN)),
-        );
-        assert_eq!(rt; local.used(), unused);
-        assert_eq!(rt; text.as_slice(), DISJOINT);
-        if !refused {
-            assert!(&rt; growth > 10);
-            return Ok(());
+        match are_pieces_given_back(rt, local, heap, growth) {
+            Ok(true) => {}
+            Ok(false) => return growth > 1,
+            Err(_) => return false,
         }
     }
-    Err(AllocError)
+    false
 }
 
 #[test]
 fn pieces_are_given_back(rt: HostRuntime) -> Result<(), AllocError> {
     let local = LocalHeap::new(rt.alloc(), HEAP_SIZE)?;
     let heap = Refusing::new(&local);
-    let unused = local.used();
-    for growth in 1..MOST_GROWTHS {
-        let first = lex_piece(&heap, FIRST_TEXT, 0, CUT_AT)?;
-        let second = lex_piece(&heap, FIRST_TEXT, CUT_AT, FIRST_TEXT.len())?;
-        assert!(&rt; local.used() > unused);
-        heap.refuse(growth);
-        let refused = was_refused(
-            &rt,
-            &heap,
-            is_summary(join(&heap, FIRST_TEXT, first, second)),
-        );
-        assert_eq!(rt; local.used(), unused);
-        if !refused {
-            assert!(&rt; growth > 1);
-            return Ok(());
-        }
-    }
-    Err(AllocError)
+    assert!(&rt; pieces_in_turn(&rt, &local, &heap));
+    Ok(())
 }

@@ -1,6 +1,5 @@
 //! The lists in which layers keep what they find: if an element is refused, nothing was appended.
 
-use super::proofs::database_of;
 use super::{MOST_GROWTHS, was_refused};
 use crate::heap::Refusing;
 use mm_lists::Lists;
@@ -25,10 +24,11 @@ fn list_refused<R: Abort>(rt: &R, heap: &Refusing<Global>, growth: u64) -> bool 
         Ok(()) => was_refused(rt, heap, Some(lists.get(0) == FIRST_CITES.as_slice())),
         Err(_) => {
             let refused = was_refused(rt, heap, None);
-            match lists.push(&SECOND_CITES) {
-                Ok(()) => assert!(rt; lists.get(0) == SECOND_CITES.as_slice()),
-                Err(_) => assert!(rt; false),
-            }
+            let is_first = match lists.push(&SECOND_CITES) {
+                Ok(()) => lists.get(0) == SECOND_CITES.as_slice(),
+                Err(_) => false,
+            };
+            assert!(rt; is_first);
             refused
         }
     }
@@ -59,11 +59,12 @@ fn step_refused<R: Abort>(rt: &R, heap: &Refusing<Global>, capacity: usize, grow
         Ok(()) => was_refused(rt, heap, Some(steps.step(0) == Step::Label(2))),
         Err(_) => {
             let refused = was_refused(rt, heap, None);
-            assert_eq!(rt; steps.len(), 0);
-            match steps.push(30, Step::Label(3)) {
-                Ok(()) => assert!(rt; steps.step(0) == Step::Label(3) && steps.place(0) == 30),
-                Err(_) => assert!(rt; false),
-            }
+            assert!(rt; steps.len() == 0);
+            let is_first = match steps.push(30, Step::Label(3)) {
+                Ok(()) => steps.step(0) == Step::Label(3) && steps.place(0) == 30,
+                Err(_) => false,
+            };
+            assert!(rt; is_first);
             refused
         }
     }
@@ -113,7 +114,7 @@ fn is_repeated<'h>(
 }
 
 /// Whether `is_repeated` says so, or `None` if the machine ran out of memory.
-fn repeated<'h>(
+pub(crate) fn repeated<'h>(
     heap: &'h Refusing<Global>,
     database: &Database<'static, &'h Refusing<Global>>,
 ) -> Option<bool> {
@@ -121,21 +122,4 @@ fn repeated<'h>(
         Ok(is_right) => Some(is_right),
         Err(_) => None,
     }
-}
-
-#[test]
-fn entries_without_memory(rt: HostRuntime) -> Result<(), AllocError> {
-    let heap = Refusing::new(rt.alloc());
-    let database = database_of(&rt, &heap)?;
-    for growth in 1..MOST_GROWTHS {
-        heap.refuse(growth);
-        let refused = was_refused(&rt, &heap, repeated(&heap, &database));
-        assert!(&rt; repeated(&heap, &database) == Some(true));
-        if !refused {
-            assert!(&rt; growth > 10);
-            return Ok(());
-        }
-    }
-    assert!(&rt; false);
-    Ok(())
 }

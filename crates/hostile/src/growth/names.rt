@@ -134,8 +134,10 @@ fn symbols_with_the_same_guesses_are_told_apart(rt: HostRuntime) -> Result<(), A
     let alloc = rt.alloc();
     let found = outcome_of(&rt, alloc, &with_symbols(alloc, Ends::Same, 2)?);
     let usual = outcome_of(&rt, alloc, &with_symbols(alloc, Ends::Digits, 2)?);
-    assert!(&rt; usual.end != Some(RunEnd::Accepted));
-    assert!(&rt; found.end == usual.end);
-    assert_eq!(&rt; found.written.as_slice(), usual.written.as_slice());
+    assert!(&rt;
+        usual.end != Some(RunEnd::Accepted)
+            && found.end == usual.end
+            && found.written.as_slice() == usual.written.as_slice()
+    );
     Ok(())
 }

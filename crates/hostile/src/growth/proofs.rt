@@ -5,8 +5,9 @@ ghost use Rattle.mm_spec.specs.Citation.{steps_at, reading_faults_at};
 ghost use Rattle.mm_spec.specs.Output.{is_theorem_at};
 ghost use Rattle.mm_steps.specs.TheoremSteps.{theorem_steps};
 
+use super::lists::repeated;
 use super::{MOST_GROWTHS, WITHOUT_OPEN, was_refused};
-use crate::calls::{all_checked, checked, checked_by};
+use crate::calls::{BY_ALL_NODES, all_checked, checked, checked_by};
 use crate::heap::Refusing;
 use crate::texts::CITED_TWICE;
 use mm_board::{Board, BoardFault, Seat};
@@ -15,7 +16,7 @@ use mm_lex::{Cuts, lex};
 use mm_proof::{ProofRefused, Step, Steps, read_proof};
 use mm_rules::rules_of;
 use mm_stmt::{Database, read as read_statements};
-use mm_work::{Citations, Judged};
+use mm_work::{Citations, Judged, check_alone};
 use std::alloc::{AllocError, Allocator, Global};
 use std::process::Abort;
 use std::sync::Wait;
@@ -60,47 +61,6 @@ fn are_steps<A: Allocator>(answer: Result<Steps<A>, ProofRefused>) -> Option<boo
     }
 }
 
-/// Refuses each growth of reading that proof in turn. Returns whether the last reading met no
-/// refusal, and the first one did.
-fn read_in_turn<'h, R: Abort>(
-    rt: &R,
-    heap: &'h Refusing<Global>,
-    database: &Database<'static, &'h Refusing<Global>>,
-    theorem: u32,
-) -> bool
-    requires { IsTrue (is_theorem_at database.now.statements theorem) }
-{
-    for growth in 1..MOST_GROWTHS {
-        heap.refuse(growth);
-        let refused = was_refused(rt, heap, are_steps(read_proof(heap, database, theorem)));
-        assert!(rt; are_steps(read_proof(heap, database, theorem)) == Some(true));
-        if !refused {
-            return growth > 1;
-        }
-    }
-    false
-}
-
-/// Refuses each growth of reading the first theorem's proof in turn.
-fn first_read<'h, R: Abort>(
-    rt: &R,
-    heap: &'h Refusing<Global>,
-    database: &Database<'static, &'h Refusing<Global>>,
-) -> bool {
-    match first_theorem(database) {
-        Some(theorem) => read_in_turn(rt, heap, database, theorem),
-        None => false,
-    }
-}
-
-#[test]
-fn a_proof_read_without_memory(rt: HostRuntime) -> Result<(), AllocError> {
-    let heap = Refusing::new(rt.alloc());
-    let database = database_of(&rt, &heap)?;
-    assert!(&rt; first_read(&rt, &heap, &database));
-    Ok(())
-}
-
 /// Whether this is what the first theorem cites.
 fn is_checked<A: Allocator>(answer: Result<Checked<A>, CheckRefused>) -> Option<bool> {
     match answer {
@@ -118,88 +78,12 @@ fn are_rules<A: Allocator>(answer: Result<Rules<A>, AllocError>) -> Option<bool>
     }
 }
 
-/// Refuses each growth of compiling all rules in turn.
-fn rules_in_turn<'h, R: Abort>(
-    rt: &R,
-    heap: &'h Refusing<Global>,
-    database: &Database<'static, &'h Refusing<Global>>,
-) -> bool {
-    for growth in 1..MOST_GROWTHS {
-        heap.refuse(growth);
-        let refused = was_refused(rt, heap, are_rules(Rules::new(heap, database)));
-        assert!(rt; are_rules(Rules::new(heap, database)) == Some(true));
-        if !refused {
-            return growth > 5;
-        }
-    }
-    false
-}
-
-#[test]
-fn rules_made_without_memory(rt: HostRuntime) -> Result<(), AllocError> {
-    let heap = Refusing::new(rt.alloc());
-    let database = database_of(&rt, &heap)?;
-    assert!(&rt; rules_in_turn(&rt, &heap, &database));
-    Ok(())
-}
-
-/// Refuses each growth of compiling all rules by several workers in turn.
-fn rules_by_workers_in_turn<'h, R: Abort + Threads + Sync>(
-    rt: &R,
-    heap: &'h Refusing<Global>,
-    database: &Database<'static, &'h Refusing<Global>>,
-) -> bool {
-    for growth in 1..MOST_GROWTHS {
-        heap.refuse(growth);
-        let refused = was_refused(rt, heap, are_rules(rules_of(rt, heap, database, WORKERS)));
-        assert!(rt; are_rules(rules_of(rt, heap, database, WORKERS)) == Some(true));
-        if !refused {
-            return growth > 10;
-        }
-    }
-    false
-}
-
-#[test]
-fn rules_made_by_workers_without_memory(rt: HostRuntime) -> Result<(), AllocError> {
-    let heap = Refusing::new(rt.alloc());
-    let database = database_of(&rt, &heap)?;
-    assert!(&rt; rules_by_workers_in_turn(&rt, &heap, &database));
-    Ok(())
-}
-
 /// Whether there is a checker.
 fn is_checker<A: Allocator>(answer: Result<Checker<A>, AllocError>) -> Option<bool> {
     match answer {
         Ok(_) => Some(true),
         Err(_) => None,
     }
-}
-
-/// Refuses each growth of creating a checker in turn.
-fn checker_made_in_turn<'h, R: Abort>(
-    rt: &R,
-    heap: &'h Refusing<Global>,
-    database: &Database<'static, &'h Refusing<Global>>,
-) -> bool {
-    let rules = Rules::none(heap);
-    for growth in 1..MOST_GROWTHS {
-        heap.refuse(growth);
-        let refused = was_refused(rt, heap, is_checker(Checker::new(heap, database, &rules)));
-        assert!(rt; is_checker(Checker::new(heap, database, &rules)) == Some(true));
-        if !refused {
-            return growth > 3;
-        }
-    }
-    false
-}
-
-#[test]
-fn a_checker_made_without_memory(rt: HostRuntime) -> Result<(), AllocError> {
-    let heap = Refusing::new(rt.alloc());
-    let database = database_of(&rt, &heap)?;
-    assert!(&rt; checker_made_in_turn(&rt, &heap, &database));
-    Ok(())
 }
 
 /// Refuses each growth of a check in turn.
@@ -309,27 +193,12 @@ fn a_proof_checked_without_memory_and_again_by_the_same_checker(
 }
 
 /// Whether this is a board with its first seat.
-fn is_board<A: Allocator>(answer: Result<(Board<A>, Seat), BoardFault>) -> Option<bool> {
+pub(crate) fn is_board<A: Allocator>(answer: Result<(Board<A>, Seat), BoardFault>) -> Option<bool> {
     match answer {
         Ok((_board, seat)) => Some(seat.share() == 64 && seat.held().is_none() && seat.seen() == 3),
         Err(BoardFault::Memory) => None,
         Err(_) => Some(false),
     }
-}
-
-#[test]
-fn a_board_without_memory(rt: HostRuntime) {
-    let heap = Refusing::new(rt.alloc());
-    for growth in 1..MOST_GROWTHS {
-        heap.refuse(growth);
-        let refused = was_refused(&rt, &heap, is_board(Board::new(&heap, 3)));
-        assert!(&rt; is_board(Board::new(&heap, 3)) == Some(true));
-        if !refused {
-            assert!(&rt; growth > 1);
-            return;
-        }
-    }
-    assert!(&rt; false);
 }
 
 /// Whether this is what both theorems cite.
@@ -348,27 +217,110 @@ pub(crate) fn is_judged<A: Allocator>(answer: Result<Judged<A>, AllocError>) -> 
     }
 }
 
-/// Refuses each growth of checking all proofs by two workers in turn.
-fn judged_in_turn<'h, R: Abort + Threads + Wait + Sync>(
+/// Whether the steps of the first theorem's proof are read.
+fn is_first_read<'h>(
+    heap: &'h Refusing<Global>,
+    database: &Database<'static, &'h Refusing<Global>>,
+) -> Option<bool> {
+    match first_theorem(database) {
+        Some(theorem) => are_steps(read_proof(heap, database, theorem)),
+        None => Some(false),
+    }
+}
+
+/// Whether a checker is made that has no rules yet.
+fn is_checker_made<'h>(
+    heap: &'h Refusing<Global>,
+    database: &Database<'static, &'h Refusing<Global>>,
+) -> Option<bool> {
+    let rules = Rules::none(heap);
+    is_checker(Checker::new(heap, database, &rules))
+}
+
+/// A call on the database.
+#[derive(Clone, Copy)]
+enum DatabaseCall {
+    ReadProof,
+    Rules,
+    RulesByWorkers,
+    MakeChecker,
+    CheckAll,
+    CheckAlone,
+    Repeat,
+}
+
+/// The calls, and how many growths each has at least.
+const CALLS: [(DatabaseCall, u64, &str); 7] = [
+    (DatabaseCall::ReadProof, 1, "a proof is read"),
+    (DatabaseCall::Rules, 5, "rules are made"),
+    (
+        DatabaseCall::RulesByWorkers,
+        10,
+        "rules are made by workers",
+    ),
+    (DatabaseCall::MakeChecker, 3, "a checker is made"),
+    (DatabaseCall::CheckAll, 10, "all proofs are checked"),
+    (
+        DatabaseCall::CheckAlone,
+        10,
+        "all proofs are checked on one thread",
+    ),
+    (DatabaseCall::Repeat, 10, "a formula is marked and repeated"),
+];
+
+/// Whether the answer of such a call is right.
+fn answer<'h, R: Threads + Wait + Sync>(
     rt: &R,
     heap: &'h Refusing<Global>,
     database: &Database<'static, &'h Refusing<Global>>,
+    call: DatabaseCall,
+) -> Option<bool> {
+    match call {
+        DatabaseCall::ReadProof => is_first_read(heap, database),
+        DatabaseCall::Rules => are_rules(Rules::new(heap, database)),
+        DatabaseCall::RulesByWorkers => are_rules(rules_of(rt, heap, database, WORKERS)),
+        DatabaseCall::MakeChecker => is_checker_made(heap, database),
+        DatabaseCall::CheckAll => is_judged(all_checked(rt, heap, database, 2)),
+        DatabaseCall::CheckAlone => is_judged(check_alone(heap, database, BY_ALL_NODES)),
+        DatabaseCall::Repeat => repeated(heap, database),
+    }
+}
+
+/// Refuses each growth of such a call in turn. Returns whether the last one met no refusal, and the
+/// first `least` of them did.
+fn call_in_turn<'h, R: Abort + Threads + Wait + Sync>(
+    rt: &R,
+    heap: &'h Refusing<Global>,
+    database: &Database<'static, &'h Refusing<Global>>,
+    call: DatabaseCall,
+    least: u64,
 ) -> bool {
     for growth in 1..MOST_GROWTHS {
         heap.refuse(growth);
-        let refused = was_refused(rt, heap, is_judged(all_checked(rt, heap, database, 2)));
-        assert!(rt; is_judged(all_checked(rt, heap, database, 2)) == Some(true));
+        let refused = was_refused(rt, heap, answer(rt, heap, database, call));
+        assert!(rt; answer(rt, heap, database, call) == Some(true));
         if !refused {
-            return growth > 10;
+            return growth > least;
         }
     }
     false
 }
 
+/// Refuses each growth of each of these calls in turn.
+fn all_in_turn<'h, R: Abort + Threads + Wait + Sync>(
+    rt: &R,
+    heap: &'h Refusing<Global>,
+    database: &Database<'static, &'h Refusing<Global>>,
+) {
+    for (call, least, what) in CALLS {
+        assert!(rt; call_in_turn(rt, heap, database, call, least), "{what}");
+    }
+}
+
 #[test]
-fn all_proofs_checked_without_memory(rt: HostRuntime) -> Result<(), AllocError> {
+fn calls_on_a_database_without_memory(rt: HostRuntime) -> Result<(), AllocError> {
     let heap = Refusing::new(rt.alloc());
     let database = database_of(&rt, &heap)?;
-    assert!(&rt; judged_in_turn(&rt, &heap, &database));
+    all_in_turn(&rt, &heap, &database);
     Ok(())
 }

@@ -32,65 +32,12 @@ fn are_waves<A: Allocator>(answer: Result<Vec<u32, A>, AllocError>) -> Option<bo
     }
 }
 
-/// Refuses each growth of computing the waves in turn. Returns whether the last call met no
-/// refusal, and the first one did.
-fn waves_in_turn<'h, R: Abort>(
-    rt: &R,
-    heap: &'h Refusing<Global>,
-    citations: &Citations<&'h Refusing<Global>>,
-) -> bool {
-    for growth in 1..MOST_GROWTHS {
-        heap.refuse(growth);
-        let refused = was_refused(rt, heap, are_waves(waves(heap, citations)));
-        assert!(rt; are_waves(waves(heap, citations)) == Some(true));
-        if !refused {
-            return growth > 1;
-        }
-    }
-    false
-}
-
-#[test]
-fn waves_without_memory(rt: HostRuntime) -> Result<(), AllocError> {
-    let heap = Refusing::new(rt.alloc());
-    let citations = citations_of(&rt, &heap)?;
-    assert!(&rt; waves_in_turn(&rt, &heap, &citations));
-    Ok(())
-}
-
 /// Whether these are the columns of the axioms of one typecode.
 fn are_columns<A: Allocator>(answer: Result<Columns<A>, AllocError>) -> Option<bool> {
     match answer {
         Ok(columns) => Some(columns.statements() == [5u32, 9].as_slice()),
         Err(_) => None,
     }
-}
-
-/// Refuses each growth of listing the columns in turn. Returns whether the last call met no
-/// refusal, and the first one did.
-fn columns_in_turn<R: Abort>(
-    rt: &R,
-    heap: &Refusing<Global>,
-    database: &Database<'static, Global>,
-) -> bool {
-    let only = Some(b"|-".as_slice());
-    for growth in 1..MOST_GROWTHS {
-        heap.refuse(growth);
-        let refused = was_refused(rt, heap, are_columns(Columns::new(heap, database, only)));
-        assert!(rt; are_columns(Columns::new(heap, database, only)) == Some(true));
-        if !refused {
-            return growth > 1;
-        }
-    }
-    false
-}
-
-#[test]
-fn columns_without_memory(rt: HostRuntime) -> Result<(), AllocError> {
-    let heap = Refusing::new(rt.alloc());
-    let database = database_of(&rt, rt.alloc())?;
-    assert!(&rt; columns_in_turn(&rt, &heap, &database));
-    Ok(())
 }
 
 /// Whether each of the two theorems rests on each of the three axioms.
@@ -108,38 +55,6 @@ fn is_full_matrix<A: Allocator>(answer: Result<Matrix<A>, AllocError>) -> Option
     }
 }
 
-/// Refuses each growth of computing the matrix in turn. Returns whether the last call met no
-/// refusal, and the first six did.
-fn rows_in_turn<'h, R: Abort>(
-    rt: &R,
-    heap: &'h Refusing<Global>,
-    citations: &Citations<&'h Refusing<Global>>,
-    columns: &Columns<&'h Refusing<Global>>,
-) -> bool {
-    for growth in 1..MOST_GROWTHS {
-        heap.refuse(growth);
-        let refused = was_refused(
-            rt,
-            heap,
-            is_full_matrix(matrix(rt, heap, citations, columns)),
-        );
-        assert!(rt; is_full_matrix(matrix(rt, heap, citations, columns)) == Some(true));
-        if !refused {
-            return growth > 6;
-        }
-    }
-    false
-}
-
-#[test]
-fn rows_without_memory(rt: HostRuntime) -> Result<(), AllocError> {
-    let heap = Refusing::new(rt.alloc());
-    let citations = citations_of(&rt, &heap)?;
-    let columns = Columns::new(&heap, &database_of(&rt, &heap)?, None)?;
-    assert!(&rt; rows_in_turn(&rt, &heap, &citations, &columns));
-    Ok(())
-}
-
 /// Whether each of the two theorems rests on each of the three axioms, from the rows alone.
 fn are_full_rows<A: Allocator>(answer: Result<MarkedRows<A>, AllocError>) -> Option<bool> {
     match answer {
@@ -153,34 +68,84 @@ fn are_full_rows<A: Allocator>(answer: Result<MarkedRows<A>, AllocError>) -> Opt
     }
 }
 
-/// Refuses each growth of computing the rows alone in turn. Returns whether the last call met no
-/// refusal, and the first four did.
-fn rows_alone_in_turn<'h, R: Abort>(
+/// A call that computes something of what the two theorems cite.
+#[derive(Clone, Copy)]
+enum RowCall {
+    Waves,
+    Columns,
+    Matrix,
+    RowsAlone,
+}
+
+/// The calls, and how many growths each has at least.
+const CALLS: [(RowCall, u64, &str); 4] = [
+    (RowCall::Waves, 1, "waves"),
+    (RowCall::Columns, 1, "columns"),
+    (RowCall::Matrix, 6, "rows and columns"),
+    (RowCall::RowsAlone, 4, "rows alone"),
+];
+
+/// Whether the answer of such a call is right. The database is in memory of its own.
+fn answer<'h, R>(
     rt: &R,
     heap: &'h Refusing<Global>,
+    database: &Database<'static, Global>,
     citations: &Citations<&'h Refusing<Global>>,
     columns: &Columns<&'h Refusing<Global>>,
+    call: RowCall,
+) -> Option<bool> {
+    match call {
+        RowCall::Waves => are_waves(waves(heap, citations)),
+        RowCall::Columns => are_columns(Columns::new(heap, database, Some(b"|-".as_slice()))),
+        RowCall::Matrix => is_full_matrix(matrix(rt, heap, citations, columns)),
+        RowCall::RowsAlone => are_full_rows(marked_rows(heap, citations, columns)),
+    }
+}
+
+/// Refuses each growth of such a call in turn. Returns whether the last one met no refusal, and the
+/// first `least` of them did.
+fn rows_in_turn<'h, R: Abort>(
+    rt: &R,
+    heap: &'h Refusing<Global>,
+    database: &Database<'static, Global>,
+    citations: &Citations<&'h Refusing<Global>>,
+    columns: &Columns<&'h Refusing<Global>>,
+    call: RowCall,
+    least: u64,
 ) -> bool {
     for growth in 1..MOST_GROWTHS {
         heap.refuse(growth);
-        let refused = was_refused(
-            rt,
-            heap,
-            are_full_rows(marked_rows(heap, citations, columns)),
-        );
-        assert!(rt; are_full_rows(marked_rows(heap, citations, columns)) == Some(true));
+        let is_right = answer(rt, heap, database, citations, columns, call);
+        let refused = was_refused(rt, heap, is_right);
+        let is_right_again = answer(rt, heap, database, citations, columns, call);
+        assert!(rt; is_right_again == Some(true));
         if !refused {
-            return growth > 4;
+            return growth > least;
         }
     }
     false
 }
 
+/// Refuses each growth of each of these calls in turn.
+fn all_in_turn<'h, R: Abort>(
+    rt: &R,
+    heap: &'h Refusing<Global>,
+    database: &Database<'static, Global>,
+    citations: &Citations<&'h Refusing<Global>>,
+    columns: &Columns<&'h Refusing<Global>>,
+) {
+    for (call, least, what) in CALLS {
+        let is_right = rows_in_turn(rt, heap, database, citations, columns, call, least);
+        assert!(rt; is_right, "{what}");
+    }
+}
+
 #[test]
-fn rows_alone_without_memory(rt: HostRuntime) -> Result<(), AllocError> {
+fn rows_waves_and_columns_without_memory(rt: HostRuntime) -> Result<(), AllocError> {
     let heap = Refusing::new(rt.alloc());
+    let database = database_of(&rt, rt.alloc())?;
     let citations = citations_of(&rt, &heap)?;
     let columns = Columns::new(&heap, &database_of(&rt, &heap)?, None)?;
-    assert!(&rt; rows_alone_in_turn(&rt, &heap, &citations, &columns));
+    all_in_turn(&rt, &heap, &database, &citations, &columns);
     Ok(())
 }

@@ -18,7 +18,6 @@ use mm_plan::Cutting;
 use mm_run::RunEnd;
 use mm_spec::Sections;
 use std::alloc::Global;
-use std::process::Abort;
 use std::sync::Wait;
 use std::thread::Threads;
 use word_lists::text_of;
@@ -117,100 +116,99 @@ fn has_sections(report: &[u8], sections: [&[u8]; 3]) -> bool {
     rest == b"end\n".as_slice()
 }
 
-/// Asserts that a report with all sections has the first lines, and in order the sections, of the
-/// three reports that have one section each.
-fn assert_sections<R: Abort + Threads + Wait + Sync>(
+/// Whether a report with all sections has the first lines, and in order the sections, of the three
+/// reports that have one section each.
+fn consists_of(report: &[u8], parts: [&[u8]; 3]) -> bool {
+    for part in parts {
+        if part[..head_of(part)] != report[..head_of(report)] {
+            return false;
+        }
+    }
+    has_sections(
+        report,
+        [
+            section_of(parts[0]),
+            section_of(parts[1]),
+            section_of(parts[2]),
+        ],
+    )
+}
+
+/// Whether a report with all sections consists of those that have one section each.
+fn has_each_section<R: Threads + Wait + Sync>(
     rt: &R,
     alloc: Global,
     text: &[u8],
     report: &[u8],
     chance: &mut Chance,
-) {
-    let (_, matrix_report) = run_randomly(
-        rt,
-        alloc,
-        text,
-        Sections {
-            matrix: true,
-            ..Sections::none()
-        },
-        chance,
-    );
-    let (_, counts_report) = run_randomly(
-        rt,
-        alloc,
-        text,
-        Sections {
-            counts: true,
-            ..Sections::none()
-        },
-        chance,
-    );
-    let (_, usage_report) = run_randomly(
-        rt,
-        alloc,
-        text,
-        Sections {
-            usage: true,
-            ..Sections::none()
-        },
-        chance,
-    );
-    let sections = [
-        section_of(&matrix_report),
-        section_of(&counts_report),
-        section_of(&usage_report),
-    ];
-    assert!(rt; has_sections(report, sections));
-    for other in [&matrix_report, &counts_report, &usage_report] {
-        assert!(rt; other[..head_of(other)] == report[..head_of(report)]);
-    }
+) -> bool {
+    let matrix = Sections {
+        matrix: true,
+        ..Sections::none()
+    };
+    let counts = Sections {
+        counts: true,
+        ..Sections::none()
+    };
+    let usage = Sections {
+        usage: true,
+        ..Sections::none()
+    };
+    let (_, matrix_report) = run_randomly(rt, alloc, text, matrix, chance);
+    let (_, counts_report) = run_randomly(rt, alloc, text, counts, chance);
+    let (_, usage_report) = run_randomly(rt, alloc, text, usage, chance);
+    consists_of(report, [&matrix_report, &counts_report, &usage_report])
 }
 
-/// Asserts that two runs write the same statements.
-fn assert_statements<R: Abort + Threads + Wait + Sync>(
+/// Whether two runs write the same statements.
+fn tells_statements_alike<R: Threads + Wait + Sync>(
     rt: &R,
     alloc: Global,
     text: &[u8],
     chance: &mut Chance,
-) {
+) -> bool {
     let statements = Sections {
         statements: true,
         ..Sections::none()
     };
     let (_, report) = run_randomly(rt, alloc, text, statements, chance);
     let (_, other_report) = run_randomly(rt, alloc, text, statements, chance);
-    assert!(rt; report.as_slice() == other_report.as_slice());
-    assert!(rt; section_of(&report).starts_with(b"statements\n"));
+    report.as_slice() == other_report.as_slice() && section_of(&report).starts_with(b"statements\n")
 }
 
-/// Runs a text in several ways, asserts that all write the same, and returns how they end.
-fn end_of_all_runs<R: Abort + Threads + Wait + Sync>(
+/// Whether a run for one section writes this refusal.
+fn is_refused_alike<R: Threads + Wait + Sync>(
+    rt: &R,
+    alloc: Global,
+    text: &[u8],
+    refusal: &[u8],
+    chance: &mut Chance,
+) -> bool {
+    let counts = Sections {
+        counts: true,
+        ..Sections::none()
+    };
+    let (_, written) = run_randomly(rt, alloc, text, counts, chance);
+    written.as_slice() == refusal
+}
+
+/// Runs a text in several ways. Returns how they end, and whether all write the same.
+fn end_of_all_runs<R: Threads + Wait + Sync>(
     rt: &R,
     alloc: Global,
     text: &[u8],
     chance: &mut Chance,
-) -> Option<RunEnd> {
+) -> (Option<RunEnd>, bool) {
     let (end, written) = run_plainly(rt, alloc, text);
     let (other_end, other_written) = run_randomly(rt, alloc, text, Sections::by_default(), chance);
-    assert!(rt; other_end == end && other_written.as_slice() == written.as_slice());
-    if end == Some(RunEnd::Accepted) {
-        assert_sections(rt, alloc, text, &written, chance);
-        assert_statements(rt, alloc, text, chance);
+    let is_alike = other_end == end && other_written.as_slice() == written.as_slice();
+    let is_right = if end == Some(RunEnd::Accepted) {
+        has_each_section(rt, alloc, text, &written, chance)
+            && tells_statements_alike(rt, alloc, text, chance)
     } else {
-        let (_, refusal) = run_randomly(
-            rt,
-            alloc,
-            text,
-            Sections {
-                counts: true,
-                ..Sections::none()
-            },
-            chance,
-        );
-        assert!(rt; refusal.as_slice() == written.as_slice());
-    }
-    end
+        is_refused_alike(rt, alloc, text, &written, chance)
+    };
+    (end, is_alike && is_right)
 }
 
 /// A random text, and whether it is an unchanged database.
@@ -263,11 +261,9 @@ fn texts_by_chance_have_one_answer(rt: HostRuntime) {
     for seed in 0..TEXTS {
         let mut chance = Chance::new(seed as u64);
         let (text, is_unchanged) = random_text(rt.alloc(), &mut chance);
-        let end = end_of_all_runs(&rt, rt.alloc(), &text, &mut chance);
-        assert!(&rt;
-            !is_unchanged || end == Some(RunEnd::Accepted),
-            "text {seed}"
-        );
+        let (end, is_right) = end_of_all_runs(&rt, rt.alloc(), &text, &mut chance);
+        let is_due = !is_unchanged || end == Some(RunEnd::Accepted);
+        assert!(&rt; is_right && is_due, "text {seed}");
         tally.count(end);
     }
     assert!(&rt; tally.accepted > TEXTS / 4);

@@ -2,22 +2,25 @@
 //! that come close to one.
 
 use super::{NO_OPTIONS, assert_each_writes, writes};
-use crate::examples::{SCOPES, SHAPES, WORDS};
+use crate::examples::{Example, SCOPES, SHAPES, WORDS};
 use crate::texts::{A1I_REPORT, A1I_UP_TO_PROOF, AFTER_PROOF, BASE, DETACHMENT, joined};
-use std::alloc::AllocError;
+use std::alloc::{AllocError, Global};
+use std::process::Abort;
+use std::sync::Wait;
+use std::thread::Threads;
+
+/// Asserts that a run writes what each of the examples says.
+fn assert_examples<R: Abort + Threads + Wait + Sync>(rt: &R, alloc: Global, examples: &[Example]) {
+    for (row, (text, _, _, output)) in examples.iter().enumerate() {
+        assert!(rt; writes(rt, alloc, NO_OPTIONS, text, output), "row {row}");
+    }
+}
 
 #[test]
 fn faults_of_words_and_statements(rt: HostRuntime) {
-    let alloc = rt.alloc();
-    for (text, _, _, output) in WORDS {
-        assert!(&rt; writes(&rt, alloc, NO_OPTIONS, text, output));
-    }
-    for (text, _, _, output) in SHAPES {
-        assert!(&rt; writes(&rt, alloc, NO_OPTIONS, text, output));
-    }
-    for (text, _, _, output) in SCOPES {
-        assert!(&rt; writes(&rt, alloc, NO_OPTIONS, text, output));
-    }
+    assert_examples(&rt, rt.alloc(), &WORDS);
+    assert_examples(&rt, rt.alloc(), &SHAPES);
+    assert_examples(&rt, rt.alloc(), &SCOPES);
 }
 
 /// Statements with a faulty proof.
@@ -51,7 +54,7 @@ const FAULTS_OF_PROOFS: [(&[u8], &[u8]); 14] = [
 ];
 
 #[test]
-fn faults_of_proofs(rt: HostRuntime) -> Result<(), AllocError> {
+fn faults_of_proofs(rt: HostRuntime) {
     assert_each_writes(
         &rt,
         rt.alloc(),
@@ -59,7 +62,7 @@ fn faults_of_proofs(rt: HostRuntime) -> Result<(), AllocError> {
         b"$c a $. ",
         &FAULTS_OF_PROOFS,
         b"",
-    )
+    );
 }
 
 /// Proofs of `a1i`, which stand in line 8 from column 41 on (`A1I_UP_TO_PROOF`), and what is
@@ -109,9 +112,9 @@ const PROOFS: [(&[u8], &[u8]); 31] = [
 
 #[test]
 fn proofs_of_one_theorem(rt: HostRuntime) -> Result<(), AllocError> {
-    let alloc = rt.alloc();
-    let before = joined(alloc, &[BASE, DETACHMENT, A1I_UP_TO_PROOF])?;
-    assert_each_writes(&rt, alloc, NO_OPTIONS, &before, &PROOFS, AFTER_PROOF)
+    let before = joined(rt.alloc(), &[BASE, DETACHMENT, A1I_UP_TO_PROOF])?;
+    assert_each_writes(&rt, rt.alloc(), NO_OPTIONS, &before, &PROOFS, AFTER_PROOF);
+    Ok(())
 }
 
 /// Statements at the end of a text. The bad byte stands in the second row before the end of the
@@ -178,8 +181,8 @@ const STATEMENTS: [(&[u8], &[u8]); 14] = [
 ];
 
 #[test]
-fn faults_of_whole_texts(rt: HostRuntime) -> Result<(), AllocError> {
-    assert_each_writes(&rt, rt.alloc(), NO_OPTIONS, BASE, &STATEMENTS, b"")
+fn faults_of_whole_texts(rt: HostRuntime) {
+    assert_each_writes(&rt, rt.alloc(), NO_OPTIONS, BASE, &STATEMENTS, b"");
 }
 
 /// Symbols, and statements that the theorems in `STEPS` cite.
@@ -238,7 +241,7 @@ const STEPS: [(&[u8], &[u8]); 14] = [
 ];
 
 #[test]
-fn steps_and_their_entries(rt: HostRuntime) -> Result<(), AllocError> {
+fn steps_and_their_entries(rt: HostRuntime) {
     let counts = ["mmdepend", "--report", "counts"];
-    assert_each_writes(&rt, rt.alloc(), &counts, HEAD, &STEPS, b"\n")
+    assert_each_writes(&rt, rt.alloc(), &counts, HEAD, &STEPS, b"\n");
 }

@@ -9,19 +9,21 @@ use std::alloc::{AllocError, Global};
 use std::sync::Wait;
 use std::thread::Threads;
 
-/// Whether runs with 1, with 2 and with 64 workers all write these bytes.
+/// Whether runs with 1, with 2 and with 64 workers all write these bytes, if there is memory for
+/// them and for the text.
 fn is_written_by_any_workers<R: Threads + Wait + Sync>(
     rt: &R,
     alloc: Global,
-    text: &[u8],
-    output: &[u8],
-) -> bool {
-    for workers in ["1", "2", "64"] {
-        if !writes(rt, alloc, &["mmdepend", "--workers", workers], text, output) {
-            return false;
-        }
-    }
-    true
+    text: Result<Vec<u8>, AllocError>,
+    output: Result<Vec<u8>, AllocError>,
+) -> Result<bool, AllocError> {
+    let text = text?;
+    let output = output?;
+    Ok(
+        writes(rt, alloc, &["mmdepend", "--workers", "1"], &text, &output)
+            && writes(rt, alloc, &["mmdepend", "--workers", "2"], &text, &output)
+            && writes(rt, alloc, &["mmdepend", "--workers", "64"], &text, &output),
+    )
 }
 
 /// The report on the many theorems, all of which rest on the first of two axioms.
@@ -37,14 +39,14 @@ fn many_report(alloc: Global) -> Result<Vec<u8>, AllocError> {
 }
 
 #[test]
-fn many_theorems(rt: HostRuntime) -> Result<(), AllocError> {
+fn many_theorems(rt: HostRuntime) {
     let alloc = rt.alloc();
-    let text = many_theorems_text(alloc, NONE_FAULTY)?;
-    let report = many_report(alloc)?;
-    assert!(&rt; is_written_by_any_workers(&rt, alloc, &text, &report));
-    let faulty = many_theorems_text(alloc, &[FIRST_FAULTY, ANOTHER_FAULTY])?;
-    assert!(&rt; is_written_by_any_workers(&rt, alloc, &faulty, b"refused 2007:49 E37\n"));
-    Ok(())
+    let text = many_theorems_text(alloc, NONE_FAULTY);
+    let is_valid = is_written_by_any_workers(&rt, alloc, text, many_report(alloc));
+    let faulty = many_theorems_text(alloc, &[FIRST_FAULTY, ANOTHER_FAULTY]);
+    let refusal = b"refused 2007:49 E37\n".as_slice().to_vec(alloc);
+    let is_faulty = is_written_by_any_workers(&rt, alloc, faulty, refusal);
+    assert!(&rt; is_valid.unwrap_or(false) && is_faulty.unwrap_or(false));
 }
 
 /// How many axioms the wide text has: more than a word of a row has bits.
@@ -166,10 +168,8 @@ fn wide_report(alloc: Global) -> Result<Vec<u8>, AllocError> {
 
 // The rows of each wave differ, and those of the second are made from those of the first.
 #[test]
-fn rows_of_wide_waves(rt: HostRuntime) -> Result<(), AllocError> {
+fn rows_of_wide_waves(rt: HostRuntime) {
     let alloc = rt.alloc();
-    let text = wide_text(alloc)?;
-    let report = wide_report(alloc)?;
-    assert!(&rt; is_written_by_any_workers(&rt, alloc, &text, &report));
-    Ok(())
+    let is_right = is_written_by_any_workers(&rt, alloc, wide_text(alloc), wide_report(alloc));
+    assert!(&rt; is_right.unwrap_or(false));
 }

@@ -43,17 +43,29 @@ fn writes<R: Threads + Wait + Sync>(
     }
 }
 
-/// Asserts that each run writes what its case says.
-fn assert_all_write<R: Abort + Threads + Wait + Sync>(
+/// Whether a run by this command line writes these bytes for the text, if there is memory for it.
+fn writes_for<R: Threads + Wait + Sync>(
     rt: &R,
     alloc: Global,
-    cases: &[Case],
-) -> Result<(), AllocError> {
-    for case in cases {
-        let text = joined(alloc, case.parts)?;
-        assert!(rt; writes(rt, alloc, case.words, &text, case.output));
+    words: &[&str],
+    text: Result<Vec<u8>, AllocError>,
+    output: &[u8],
+) -> bool {
+    match text {
+        Ok(text) => writes(rt, alloc, words, &text, output),
+        Err(_) => false,
     }
-    Ok(())
+}
+
+/// Asserts that each run writes what its case says.
+fn assert_all_write<R: Abort + Threads + Wait + Sync>(rt: &R, alloc: Global, cases: &[Case]) {
+    for (row, case) in cases.iter().enumerate() {
+        let text = joined(alloc, case.parts);
+        assert!(rt;
+            writes_for(rt, alloc, case.words, text, case.output),
+            "case {row}"
+        );
+    }
 }
 
 /// Asserts what is written for texts that differ in one part alone: each row has that part and what
@@ -65,10 +77,9 @@ fn assert_each_writes<R: Abort + Threads + Wait + Sync>(
     before: &[u8],
     rows: &[(&[u8], &[u8])],
     after: &[u8],
-) -> Result<(), AllocError> {
-    for (part, output) in rows {
-        let text = joined(alloc, &[before, part, after])?;
-        assert!(rt; writes(rt, alloc, words, &text, output));
+) {
+    for (row, (part, output)) in rows.iter().enumerate() {
+        let text = joined(alloc, &[before, part, after]);
+        assert!(rt; writes_for(rt, alloc, words, text, output), "row {row}");
     }
-    Ok(())
 }

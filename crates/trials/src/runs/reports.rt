@@ -1,13 +1,15 @@
 //! What reports show: the chosen sections and columns, citations by essential nodes, open theorems,
 //! the second form, direct citations, and statements.
 
-use super::{Case, NO_OPTIONS, assert_all_write, writes};
+use super::{Case, NO_OPTIONS, assert_all_write, writes_for};
 use crate::texts::{
     A1I_PROOF, A1I_REPORT, A1I_UP_TO_PROOF, AFTER_PROOF, BASE, DETACHMENT, FIRST_REPORT,
     FIRST_TEXT, NO_CITATIONS, NOTHING_REPORT, THROUGH_REPORT, THROUGH_THEOREM, add_number,
     chain_text, joined, seventy_axioms_text,
 };
 use std::alloc::{AllocError, Global};
+use std::sync::Wait;
+use std::thread::Threads;
 
 /// A text with a theorem, `a1i`.
 const ONE_THEOREM: &[&[u8]] = &[BASE, DETACHMENT, A1I_UP_TO_PROOF, A1I_PROOF, AFTER_PROOF];
@@ -77,8 +79,8 @@ const SECTIONS: [Case<'static>; 8] = [
 ];
 
 #[test]
-fn sections_and_columns(rt: HostRuntime) -> Result<(), AllocError> {
-    assert_all_write(&rt, rt.alloc(), &SECTIONS)
+fn sections_and_columns(rt: HostRuntime) {
+    assert_all_write(&rt, rt.alloc(), &SECTIONS);
 }
 
 const LOGICAL_REPORT: &[u8] =
@@ -143,8 +145,8 @@ const ESSENTIAL_CASES: [Case<'static>; 7] = [
 ];
 
 #[test]
-fn citations_by_essential_nodes(rt: HostRuntime) -> Result<(), AllocError> {
-    assert_all_write(&rt, rt.alloc(), &ESSENTIAL_CASES)
+fn citations_by_essential_nodes(rt: HostRuntime) {
+    assert_all_write(&rt, rt.alloc(), &ESSENTIAL_CASES);
 }
 
 const SECOND_FORM: &[&str] = &["mmdepend", "--form", "2", "--report", "matrix"];
@@ -173,22 +175,16 @@ const SECOND_FORM_CASES: [Case<'static>; 4] = [
     },
 ];
 
+/// The matrix of seventy axioms in the second form.
+const SEVENTY_DIGITS: &[u8] =
+    b"mmdepend 2\naxioms 70\ntheorems 2\nmatrix\nt:800000000000000184\nu:c00000000000000184\nend\n";
+
 #[test]
-fn the_second_form(rt: HostRuntime) -> Result<(), AllocError> {
+fn the_second_form(rt: HostRuntime) {
     let alloc = rt.alloc();
-    assert_all_write(&rt, alloc, &SECOND_FORM_CASES)?;
-    let digits =
-        b"mmdepend 2\naxioms 70\ntheorems 2\nmatrix\nt:800000000000000184\nu:c00000000000000184\nend\n";
-    assert!(&rt;
-        writes(
-            &rt,
-            alloc,
-            SECOND_FORM,
-            &seventy_axioms_text(alloc)?,
-            digits
-        )
-    );
-    Ok(())
+    assert_all_write(&rt, alloc, &SECOND_FORM_CASES);
+    let text = seventy_axioms_text(alloc);
+    assert!(&rt; writes_for(&rt, alloc, SECOND_FORM, text, SEVENTY_DIGITS));
 }
 
 const CITATIONS: &[&str] = &["mmdepend", "--report", "citations"];
@@ -248,8 +244,8 @@ const CITATIONS_CASES: [Case<'static>; 8] = [
 ];
 
 #[test]
-fn direct_citations(rt: HostRuntime) -> Result<(), AllocError> {
-    assert_all_write(&rt, rt.alloc(), &CITATIONS_CASES)
+fn direct_citations(rt: HostRuntime) {
+    assert_all_write(&rt, rt.alloc(), &CITATIONS_CASES);
 }
 
 /// Two blocks with `$f` of their own for the same variables. The formula of `one` is empty behind
@@ -303,8 +299,8 @@ const STATEMENTS_CASES: [Case<'static>; 5] = [
 ];
 
 #[test]
-fn statements_are_told(rt: HostRuntime) -> Result<(), AllocError> {
-    assert_all_write(&rt, rt.alloc(), &STATEMENTS_CASES)
+fn statements_are_told(rt: HostRuntime) {
+    assert_all_write(&rt, rt.alloc(), &STATEMENTS_CASES);
 }
 
 /// An open theorem, `o`, and one that cites it, `u`.
@@ -375,8 +371,8 @@ const OPEN_CASES: [Case<'static>; 8] = [
 ];
 
 #[test]
-fn open_theorems_are_columns(rt: HostRuntime) -> Result<(), AllocError> {
-    assert_all_write(&rt, rt.alloc(), &OPEN_CASES)
+fn open_theorems_are_columns(rt: HostRuntime) {
+    assert_all_write(&rt, rt.alloc(), &OPEN_CASES);
 }
 
 /// Runs whose proofs are incomplete.
@@ -399,8 +395,8 @@ const INCOMPLETE_CASES: [Case<'static>; 3] = [
 ];
 
 #[test]
-fn other_incomplete_proofs_are_refused(rt: HostRuntime) -> Result<(), AllocError> {
-    assert_all_write(&rt, rt.alloc(), &INCOMPLETE_CASES)
+fn other_incomplete_proofs_are_refused(rt: HostRuntime) {
+    assert_all_write(&rt, rt.alloc(), &INCOMPLETE_CASES);
 }
 
 /// The report on seventy axioms and two theorems: a row of marks for each, and the axioms that they
@@ -429,19 +425,29 @@ fn seventy_report(alloc: Global) -> Result<Vec<u8>, AllocError> {
     Ok(text)
 }
 
-#[test]
-fn rows_of_more_than_a_word(rt: HostRuntime) -> Result<(), AllocError> {
-    let alloc = rt.alloc();
-    let text = seventy_axioms_text(alloc)?;
-    let report = seventy_report(alloc)?;
-    assert!(&rt; writes(&rt, alloc, NO_OPTIONS, &text, &report));
-    Ok(())
+/// Whether a run writes this report for the text, if there is memory for both.
+fn is_reported<R: Threads + Wait + Sync>(
+    rt: &R,
+    alloc: Global,
+    words: &[&str],
+    text: Result<Vec<u8>, AllocError>,
+    report: Result<Vec<u8>, AllocError>,
+) -> bool {
+    match report {
+        Ok(report) => writes_for(rt, alloc, words, text, &report),
+        Err(_) => false,
+    }
 }
 
 #[test]
-fn a_chain_has_the_same_row_all_along(rt: HostRuntime) -> Result<(), AllocError> {
+fn rows_of_more_than_a_word(rt: HostRuntime) {
     let alloc = rt.alloc();
-    let text = chain_text(alloc)?;
+    let text = seventy_axioms_text(alloc);
+    assert!(&rt; is_reported(&rt, alloc, NO_OPTIONS, text, seventy_report(alloc)));
+}
+
+/// The matrix of a chain of theorems.
+fn chain_report(alloc: Global) -> Result<Vec<u8>, AllocError> {
     let mut report = joined(alloc, &[b"mmdepend 1\naxioms 2\ntheorems 130\nmatrix\n"])?;
     for k in 0..130 {
         report.push(b't')?;
@@ -449,7 +455,12 @@ fn a_chain_has_the_same_row_all_along(rt: HostRuntime) -> Result<(), AllocError>
         report.extend_from_slice(b":10\n")?;
     }
     report.extend_from_slice(b"end\n")?;
+    Ok(report)
+}
+
+#[test]
+fn a_chain_has_the_same_row_all_along(rt: HostRuntime) {
+    let alloc = rt.alloc();
     let words = ["mmdepend", "--report", "matrix"];
-    assert!(&rt; writes(&rt, alloc, &words, &text, &report));
-    Ok(())
+    assert!(&rt; is_reported(&rt, alloc, &words, chain_text(alloc), chain_report(alloc)));
 }
