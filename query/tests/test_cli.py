@@ -48,10 +48,6 @@ class CommandLine(World):
         self.refuses("rests", "small.mm", "a2", "--esential", why="did you mean --essential?")
         self.refuses("rests", "--formt=json", "small.mm", "a2", why="did you mean --format?")
         self.refuses("rests", "small.mm", "a2", "--xyzzy", why="no option --xyzzy\n")
-        self.refuses("top", "small.mm", "--least", why="no option --least\n")
-        for name in ("why", "frees", "way-out"):
-            told = "no option --on; ON stands without an option"
-            self.refuses(name, "small.mm", "a2", "--on", "ax-1", why=told)
         self.refuses("rests", "small.mm", "a2", "--format", "xml", why="xml")
         self.refuses("rests", "--format=xml", why="'xml'")
         self.refuses("rests", "small.mm", "a2", "--format", why="lacks its value")
@@ -83,6 +79,12 @@ class CommandLine(World):
         self.refuses("top", "small.mm", "0", why="'0' is no number")
         self.refuses("top", "small.mm", "two", why="'two' is no number")
         self.refuses("rests", "--only", "wff", "--all", "small.mm", "a2", why="--all")
+
+    def test_what_stands_without_an_option(self) -> None:
+        self.refuses("top", "small.mm", "--least", why="no option --least\n")
+        for name in ("why", "frees", "way-out"):
+            told = "no option --on; ON stands without an option"
+            self.refuses(name, "small.mm", "a2", "--on", "ax-1", why=told)
 
     def test_options_stand_anywhere(self) -> None:
         wanted = ["wi", "ax-1", "ax-mp"]

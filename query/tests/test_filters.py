@@ -121,8 +121,9 @@ class Filtered(World):
                 want = [row for row in whole if test(str(row[column]))]
                 done = self.query(*asked, *filters)
                 self.assertEqual((done.status, done.rows()), (0, want), (name, filters))
-                # Of definitions it says also how many aren't judged.
-                if name != "definitions" or not want:
+                # Of definitions it says also how many aren't judged, and of what frees most whether it
+                # only says the axiom in another form.
+                if name not in ("definitions", "frees") or not want:
                     self.assertEqual(bool(want), not done.err, (name, filters))
 
     def test_before_the_number_is_counted(self) -> None:
