@@ -121,7 +121,7 @@ class Filtered(World):
                 want = [row for row in whole if test(str(row[column]))]
                 done = self.query(*asked, *filters)
                 self.assertEqual((done.status, done.rows()), (0, want), (name, filters))
-                # Of definitions it says also how many aren't judged, and of what frees most whether it
+                # Of definitions it says also how many aren't judged, and of what frees most that it
                 # only says the axiom in another form.
                 if name not in ("definitions", "frees") or not want:
                     self.assertEqual(bool(want), not done.err, (name, filters))
