@@ -30,7 +30,7 @@ WORDS: dict[str, tuple[str, ...]] = {
     "uncited": ("DB",),
     "why": ("DB", "a2", "ax-1"),
     "way-out": ("DB", "a2", "ax-1"),
-    "frees": ("DB", "ax-1"),
+    "frees": ("DB", "ax-1", "a1i"),
     "spare": ("DB", "ax-1"),
     "repeats": ("DB",),
     "unneeded": ("DB",),
