@@ -12,15 +12,17 @@ ghost use Rattle.mm_machine.specs.DisjointCache.{AreDisjointAt};
 ghost use Rattle.mm_machine.specs.FlagRows.{AreColumnsOf};
 ghost use Rattle.mm_rule.specs.Rule.{IsCompiled};
 ghost use Rattle.mm_nodes.specs.Strings.{string_of};
-ghost use Rattle.mm_machine.specs.Distinct.{IsSegment, segment_at};
-ghost use Rattle.mm_machine.specs.Distinct.{are_bodies_disjoint, are_segments_disjoint};
+ghost use Rattle.std.specs.List.{Contains};
+ghost use Rattle.mm_machine.specs.Distinct.{HasBoth, HaveVariables, HaveSameVariables};
+ghost use Rattle.mm_machine.specs.Distinct.{are_bodies_disjoint, are_strings_disjoint};
+ghost use Rattle.mm_machine.specs.State.{IsRising};
 ghost use Rattle.mm_machine.specs.Entries.{IsEntry, AreInRange, entry_formulas};
 ghost use Rattle.mm_machine.specs.Masks.{AreVariablesOf, AreAllMasked, AreMasked, entry_masks};
 ghost use Rattle.mm_machine.specs.Masks.{IsDisjointFromMask, AreDisjointMasks};
 ghost use Rattle.mm_machine.specs.Applied.{TestsRule};
 
 use crate::disjoint_cache::DisjointCache;
-use crate::distinct::DistinctVariables;
+use crate::distinct::{DistinctVariables, index_of_body};
 use crate::entry::Entry;
 use crate::entry_match::premises_match;
 use crate::flat::{SymbolLists, append_body};
@@ -230,43 +232,58 @@ fn lists_are_disjoint<A: Allocator>(
     }
 }
 
-/// The symbols of a segment of a list.
-fn symbols_at<'a>(symbols: &'a [Sym], segments: &[Segment], index: u32) -> &'a [Sym]
-    requires index_lt_length { index < length segments.now }
-    requires are_segments { All (IsSegment (length symbols.now)) segments.now }
-    ensures { result.now ≡ segment_at symbols.now segments.now index }
+/// The variables of a body that is listed.
+fn variables_of<'a, A: Allocator>(
+    _database: &Database<A>,
+    _nodes: &Nodes<A>,
+    listed: &[u32],
+    symbols: &'a [Sym],
+    segments: &[Segment],
+    body: u32,
+) -> &'a [Sym]
+    requires listed_rise { IsRising listed.now }
+    requires is_listed { Contains listed.now body }
+    requires have_variables { HaveVariables _database.now.statements _nodes.now listed.now
+        symbols.now segments.now }
+    ensures are_symbols { All (λ symbol. symbol < length (symbol_names
+        _database.now.statements)) result.now }
+    ensures have_same_variables { HaveSameVariables _database.now.statements
+        (string_of _nodes.now body) result.now }
 {
-    let segment = segments[index as usize];
+    let segment = segments[index_of_body(listed, body)];
     &symbols[segment.start..segment.end]
 }
 
-/// Whether for each pair of segments of a list, each variable of the first is disjoint from each
-/// variable of the second.
+/// Whether for each pair of bodies, each variable of the first is disjoint from each variable of
+/// the second. A pair that comes again isn't asked again: what a step finds of two bodies holds
+/// for the step, and equal pairs are neighbours.
 fn pairs_are_disjoint<A: Allocator>(
     database: &Database<A>,
     theorem: u32,
+    _nodes: &Nodes<A>,
+    asked: &[(u32, u32)],
+    listed: &[u32],
     symbols: &[Sym],
     segments: &[Segment],
-    pairs: &[(u32, u32)],
     columns: &mut Vec<usize, A>,
     cache: &mut DisjointCache<A>,
 ) -> bool
     requires theorem_lt_length { theorem < length database.now.statements }
-    requires are_symbols { All (λ symbol. symbol < length (symbol_names database.now.statements))
-        symbols.now }
-    requires are_segments { All (IsSegment (length symbols.now)) segments.now }
-    requires pairs_in_range { All
-        (λ (p : ℕ × ℕ). (p.0 < length segments.now) × (p.1 < length segments.now)) pairs.now }
+    requires listed_rise { IsRising listed.now }
+    requires are_listed { All (HasBoth listed.now) asked.now }
+    requires have_variables { HaveVariables database.now.statements _nodes.now listed.now
+        symbols.now segments.now }
     requires cached_are_disjoint { AreDisjointAt database.now.statements theorem cache.old }
     ensures tells_disjoint { result
-        ≡ list_all
-        (are_segments_disjoint database.now.statements theorem symbols.now segments.now)
-        pairs.now }
+        ≡ list_all (are_strings_disjoint database.now.statements theorem _nodes.now) asked.now }
     ensures cached_are_disjoint { AreDisjointAt database.now.statements theorem cache.new }
 {
-    for pair in pairs {
-        let first = symbols_at(symbols, segments, pair.0);
-        let second = symbols_at(symbols, segments, pair.1);
+    for (index, pair) in asked.iter().enumerate() {
+        if index > 0 && asked[index - 1] == *pair {
+            continue;
+        }
+        let first = variables_of(database, _nodes, listed, symbols, segments, pair.0);
+        let second = variables_of(database, _nodes, listed, symbols, segments, pair.1);
         if !lists_are_disjoint(database, theorem, first, second, columns, cache) {
             return false;
         }
@@ -275,7 +292,8 @@ fn pairs_are_disjoint<A: Allocator>(
 }
 
 /// Whether for each pair of variables, each variable in what replaces the first is disjoint from
-/// each variable in what replaces the second. A variable of a formula is looked at once.
+/// each variable in what replaces the second. Two formulas are asked about once, and a variable of
+/// a formula is looked at once.
 #[cold]
 #[inline(never)]
 fn long_formulas_are_disjoint<A: Allocator>(
@@ -301,11 +319,15 @@ fn long_formulas_are_disjoint<A: Allocator>(
         (are_bodies_disjoint database.now.statements theorem nodes.old premises.now) pairs.now) }
     ensures cached_are_disjoint { AreDisjointAt database.now.statements theorem cache.new }
 {
-    distinct.collect(database, nodes, premises, bodies)?;
+    distinct.collect(database, nodes, premises, pairs, bodies)?;
+    let asked = &distinct.asked;
+    let listed = &distinct.listed;
     let symbols = &distinct.symbols;
     let segments = &distinct.segments;
     let columns = &mut distinct.columns;
-    Ok(pairs_are_disjoint(database, theorem, symbols, segments, pairs, columns, cache))
+    Ok(pairs_are_disjoint(
+        database, theorem, nodes, asked, listed, symbols, segments, columns, cache,
+    ))
 }
 
 /// Whether each variable of a body's string is disjoint from each variable of another's.

@@ -1,34 +1,46 @@
-use Rattle.std.proofs.Common.{rules, arith}
-use Rattle.std.proofs.lemmas.Grind.{common_steps}
-use Rattle.std.proofs.lemmas.List.{take_all}
+use Rattle.std.proofs.Common.{◌≡◌, ◌∙◌, ◌-◌, ℕ, get_or, sym, arith, refl, take, true}
+use Rattle.std.specs.List.{list_all}
 use Rattle.std.proofs.lemmas.List.Folds.{list_all_at}
-use Rattle.std.proofs.lemmas.List.Elements.{All-take, All-drop}
+use Rattle.mm_machine.specs.Distinct.{are_strings_disjoint}
+use Rattle.mm_machine.proofs.DistinctLaw.{disjoint_by_variables, same_as_before}
+use Rattle.mm_machine.proofs.OwnersLaw.{list_all_next}
 use Rattle.mm_machine.proofs.rule_conditions.pairs_are_disjoint.Goals as goal
+
+pub variables_of-first-requires-clause-is_listed : goal.variables_of-first-requires-clause-is_listed
+variables_of-first-requires-clause-is_listed g c =
+    (c.requires.are_listed c.loop-index.index (0, 0) c.loop-index-test.true).0
+
+pub variables_of-second-requires-clause-is_listed :
+    goal.variables_of-second-requires-clause-is_listed
+variables_of-second-requires-clause-is_listed g c =
+    (c.requires.are_listed c.loop-index.index (0, 0) c.loop-index-test.true).1
 
 pub returns-then-not-lists_are_disjoint-clause-tells_disjoint :
     goal.returns-then-not-lists_are_disjoint-clause-tells_disjoint
-returns-then-not-lists_are_disjoint-clause-tells_disjoint g c = search (rules, arith, list_all_at)
+returns-then-not-lists_are_disjoint-clause-tells_disjoint g c =
+    let db = c.args.database.now.statements in
+    let nodes = c.args._nodes.now in
+    let ps = c.args.asked.now in
+    let i = c.loop-index.index in
+    sym (list_all_at (are_strings_disjoint db c.args.theorem nodes) ps i (0, 0)
+    c.loop-index-test.true (disjoint_by_variables db c.args.theorem _ _ _ _
+    c.variables_of-first.ensures.have_same_variables
+    c.variables_of-second.ensures.have_same_variables
+    ∙ sym c.lists_are_disjoint.ensures.tells_disjoint ∙ c.if-not-lists_are_disjoint.true))
 
-pub symbols_at-first-requires-clause-index_lt_length :
-    goal.symbols_at-first-requires-clause-index_lt_length
-symbols_at-first-requires-clause-index_lt_length g c = search (rules, arith)
-
-pub symbols_at-second-requires-clause-index_lt_length :
-    goal.symbols_at-second-requires-clause-index_lt_length
-symbols_at-second-requires-clause-index_lt_length g c = search (rules, arith)
-
-pub lists_are_disjoint-requires-clause-first_are_symbols :
-    goal.lists_are_disjoint-requires-clause-first_are_symbols
-lists_are_disjoint-requires-clause-first_are_symbols g c =
-    grind (arith, common_steps, All-take, All-drop)
-
-pub lists_are_disjoint-requires-clause-second_are_symbols :
-    goal.lists_are_disjoint-requires-clause-second_are_symbols
-lists_are_disjoint-requires-clause-second_are_symbols g c =
-    grind (arith, common_steps, All-take, All-drop)
-
-pub loop-pair-preserved : goal.loop-pair-preserved
-loop-pair-preserved g c = grind (arith, common_steps)
-
-pub returns-clause-tells_disjoint : goal.returns-clause-tells_disjoint
-returns-clause-tells_disjoint g c = grind (arith, common_steps, take_all)
+pub loop-index-preserved : goal.loop-index-preserved
+loop-index-preserved g c =
+    let db = c.args.database.now.statements in
+    let nodes = c.args._nodes.now in
+    let ps = c.args.asked.now in
+    let i = c.loop-index.index in
+    record {
+      so_far =
+          list_all_next (are_strings_disjoint db c.args.theorem nodes) ps i (0, 0)
+          c.loop-index-test.true c.loop-index.invariant.so_far
+          (disjoint_by_variables db c.args.theorem _ _ _ _
+          c.variables_of-first.ensures.have_same_variables
+          c.variables_of-second.ensures.have_same_variables
+          ∙ sym c.lists_are_disjoint.ensures.tells_disjoint ∙ c.if-not-lists_are_disjoint.false);
+      cache = c.lists_are_disjoint.ensures.cached_are_disjoint;
+    }
