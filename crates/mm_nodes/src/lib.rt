@@ -5,10 +5,10 @@
 //! exactly if their strings are.
 //!
 //! A caller makes a [`Nodes`] once, makes bodies of others with [`Nodes::make`], compares them with
-//! [`Nodes::is_equal`], reads their symbols with [`Nodes::append_symbols`], and gives up the last
-//! nodes with [`Nodes::truncate`]. No call is recursive, however deep nodes are nested. Two strings
-//! are compared by a walk over both; long ones before that by their parts, of which there can be
-//! far fewer than symbols.
+//! [`Nodes::is_equal`], reads their symbols with [`Nodes::append_symbols`] and the bodies of a node
+//! with [`Nodes::bodies`], and gives up the last nodes with [`Nodes::truncate`]. No call is
+//! recursive, however deep nodes are nested. Two strings are compared by a walk over both; long
+//! ones before that by their parts, of which there can be far fewer than symbols.
 #![tactic(auto)]
 
 mod body;

@@ -1,7 +1,7 @@
 //! The nodes.
 
 ghost use Rattle.std.specs.Prelude.{◌≡◌, ◌<◌, ◌≤◌, ◌++◌, ◌∷◌, [], length, take, All, OnOk, OnErr};
-ghost use Rattle.std.specs.Prelude.{IfOk, bytes_eq, true, List, ℕ};
+ghost use Rattle.std.specs.Prelude.{IfOk, IfSome, bytes_eq, true, List, ℕ};
 ghost use Rattle.mm_nodes.specs.Strings.{first_node, string_of, joined_string_of, IsBody, IsMade};
 ghost use Rattle.mm_nodes.specs.Strings.{Extends};
 ghost use Rattle.mm_nodes.specs.Store.{nodes_of, AreNodes, IsBodySegment, segment_string};
@@ -212,6 +212,22 @@ impl<A: Allocator> Nodes<A> {
             return Ok(true);
         }
         self.is_equal_by_symbols(wanted, symbol_count, body)
+    }
+
+    /// The bodies of a node; `None` for a body that is no node.
+    #[inline(always)]
+    pub fn bodies(&self, body: Body) -> Option<&[Body]>
+        ensures { IfSome result (λ bs. string_of self.now body ≡ joined_string_of self.now bs.now) }
+    {
+        match body.index() {
+            None => None,
+            Some(index) => {
+                if index >= self.heads.len() {
+                    return None;
+                }
+                Some(bodies_of(&self.heads, self.bodies.as_slice(), index))
+            }
+        }
     }
 
     /// Whether these bodies are those of a node, or the body itself alone.

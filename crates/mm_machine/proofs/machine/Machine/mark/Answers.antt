@@ -1,24 +1,17 @@
-use Rattle.std.proofs.Common.{rules, ◌≡◌, ◌<◌, ◌-◌, ◌∙◌, All, get_or, ap, sym, subst, arith}
+use Rattle.std.proofs.Common.{◌≡◌, ◌<◌, ◌-◌, ◌∙◌, All, get_or, ap, sym, subst, arith}
 use Rattle.std.proofs.lemmas.List.{get_or_default}
 use Rattle.mm_machine.specs.Entries.{no_entry}
 use Rattle.mm_machine.proofs.MachineLaw.{marked_machine, machine_after_mark, marked_state}
-use Rattle.mm_machine.proofs.MachineLaw.{machine_with_floor, last_index}
+use Rattle.mm_machine.proofs.MachineLaw.{last_index}
+use Rattle.mm_machine.proofs.MaskedLaw.{raised_masked, raised_keeping}
 use Rattle.mm_machine.proofs.OwnersLaw.{masks_with_marked}
 use Rattle.mm_machine.proofs.machine.Machine.mark.Goals as goal
 
 pub invariant_of-self : goal.invariant_of-self
 invariant_of-self g c =
-    search (
-      rules,
-      arith,
-      machine_with_floor,
-      c.for_itself-entry.ensures.is_entry.needed_le_count,
-      c.self.invariant.is_machine.floor_le_count,
-      c.max-self-inside.ensures,
-      c.in_err-push.ensures.items,
-      c.self.invariant.is_machine,
-      c.self.invariant.has_masks,
-    )
+    rw c.in_err-push.ensures.items
+    (raised_keeping c.self.invariant c.max-self-inside.result c.for_itself-entry.result.needed
+    c.max-self-inside.ensures c.for_itself-entry.ensures.is_entry.needed_le_count)
 
 pub invariant_of-self-in_err-push-2 : goal.invariant_of-self-in_err-push-2
 invariant_of-self-in_err-push-2 g c =
@@ -33,15 +26,20 @@ invariant_of-self-in_err-push-2 g c =
     let e = c.for_itself-entry.result in
     rw (c.in_err-push-2.ensures.items, c.in_ok-push.ensures.items)
     (record {
-      is_machine =
-          marked_machine
-          c.self.invariant.is_machine n c.max-self-inside.result m e (omega (arith, count_is)) m_is
-          c.for_itself-entry.ensures.is_entry c.for_itself-entry.ensures.formula_stays
-          c.max-self-inside.ensures;
-      has_masks =
-          masks_with_marked c.self.invariant.has_masks n m e
-          (omega (arith, count_is)) m_is c.for_itself-entry.ensures.formula_stays
-          c.for_itself-entry.ensures.mask_stays;
+      of_marked = record {
+        is_machine =
+            marked_machine
+            c.self.invariant.of_marked.is_machine n c.max-self-inside.result m e (omega (arith, count_is)) m_is
+            c.for_itself-entry.ensures.is_entry c.for_itself-entry.ensures.formula_stays
+            c.max-self-inside.ensures;
+        has_masks =
+            masks_with_marked c.self.invariant.of_marked.has_masks n m e
+            (omega (arith, count_is)) m_is c.for_itself-entry.ensures.formula_stays
+            c.for_itself-entry.ensures.mask_stays;
+      };
+      of_long =
+          raised_masked c.self.invariant.of_long c.max-self-inside.result e.needed
+          c.max-self-inside.ensures c.for_itself-entry.ensures.is_entry.needed_le_count;
     })
 
 pub invariant_of-self-2 : goal.invariant_of-self-2
@@ -57,16 +55,21 @@ invariant_of-self-2 g c =
     let e = c.for_itself-entry.result in
     rw (c.in_ok-push-2.ensures.items, c.in_ok-push.ensures.items)
     (record {
-      is_machine =
-          machine_after_mark c.self.invariant.is_machine n c.max-self-inside.result m e
-          (omega (arith, count_is)) m_is c.for_itself-entry.ensures.is_entry
-          c.for_itself-entry.ensures.formula_stays c.max-self-inside.ensures c.args.step
-          (subst (All (λ j. j < c.args.step)) (sym (ap (λ s. s.marks) c.self.view_is))
-          c.requires.marks_lt_step);
-      has_masks =
-          masks_with_marked c.self.invariant.has_masks n m e
-          (omega (arith, count_is)) m_is c.for_itself-entry.ensures.formula_stays
-          c.for_itself-entry.ensures.mask_stays;
+      of_marked = record {
+        is_machine =
+            machine_after_mark c.self.invariant.of_marked.is_machine n c.max-self-inside.result m e
+            (omega (arith, count_is)) m_is c.for_itself-entry.ensures.is_entry
+            c.for_itself-entry.ensures.formula_stays c.max-self-inside.ensures c.args.step
+            (subst (All (λ j. j < c.args.step)) (sym (ap (λ s. s.marks) c.self.view_is))
+            c.requires.marks_lt_step);
+        has_masks =
+            masks_with_marked c.self.invariant.of_marked.has_masks n m e
+            (omega (arith, count_is)) m_is c.for_itself-entry.ensures.formula_stays
+            c.for_itself-entry.ensures.mask_stays;
+      };
+      of_long =
+          raised_masked c.self.invariant.of_long c.max-self-inside.result e.needed
+          c.max-self-inside.ensures c.for_itself-entry.ensures.is_entry.needed_le_count;
     })
 
 pub returns-clause-marks_step : goal.returns-clause-marks_step

@@ -1,22 +1,15 @@
-use Rattle.std.proofs.lemmas.Bool.Decides.{nat_tests}
 use Rattle.std.proofs.Common.{arith}
-use Rattle.mm_machine.proofs.MachineLaw.{empty_machine}
-use Rattle.mm_machine.proofs.OwnersLaw.{no_entries_masked}
+use Rattle.mm_machine.proofs.MaskedLaw.{empty_keeping}
 use Rattle.mm_machine.proofs.machine.Machine.new.Goals as goal
 
 pub invariant_of-result : goal.invariant_of-result
 invariant_of-result g c =
-    grind (
+    empty_keeping _ _ _ _ _ _ c.new.ensures c.new-2.ensures.items c.new-3.ensures.items
+    c.new-4.ensures.items c.new-5.ensures.items
+    (omega (
       arith,
-      nat_tests,
-      empty_machine,
-      no_entries_masked,
       c.in_ok-new-2.ensures.are_variables.count_is,
       c.symbol_count.ensures.count_is,
       c.symbol_count.ensures.count_lt_2_31,
-      c.new.ensures,
-      c.new-2.ensures.items,
-      c.new-3.ensures.items,
-      c.new-4.ensures.items,
-      c.in_ok-new-2.ensures.no_owners,
-    )
+    ))
+    c.in_ok-new-2.ensures.no_owners

@@ -2,6 +2,7 @@ use Rattle.std.proofs.Common.{◌≡◌, ◌<◌, ◌∙◌, length, get_or, ap,
 use Rattle.std.proofs.lemmas.List.{get_or_default}
 use Rattle.mm_machine.specs.Entries.{no_entry}
 use Rattle.mm_machine.proofs.MachineLaw.{repeated_machine, repeated_state}
+use Rattle.mm_machine.proofs.MaskedLaw.{restacked_keeping}
 use Rattle.mm_machine.proofs.OwnersLaw.{masks_with_repeated}
 use Rattle.mm_machine.proofs.machine.Machine.repeat.Goals as goal
 
@@ -13,23 +14,23 @@ invariant_of-self-2 g c =
     omega (
       arith,
       c.index_of_mark-index.ensures.index_lt_length,
-      c.self.invariant.is_machine.enough_marked,
+      c.self.invariant.of_marked.is_machine.enough_marked,
       ap length c.deref.ensures.value,
     ) in
     let m = c.index.result.now in
     let m_is : m ≡ get_or i.marked.items index no_entry =
     c.index.ensures ∙ get_or_default i.marked.items index m no_entry index_lt in
     rw c.in_ok-push.ensures.items
-    (record {
+    (restacked_keeping c.self.invariant _ (record {
       is_machine =
-          repeated_machine c.self.invariant.is_machine index m c.for_top-entry.result index_lt
+          repeated_machine c.self.invariant.of_marked.is_machine index m c.for_top-entry.result index_lt
           m_is c.for_top-entry.ensures.is_entry c.for_top-entry.ensures.formula_stays
           c.for_top-entry.ensures.needs_all;
       has_masks =
-          masks_with_repeated c.self.invariant.has_masks index m c.for_top-entry.result index_lt
+          masks_with_repeated c.self.invariant.of_marked.has_masks index m c.for_top-entry.result index_lt
           m_is
           c.for_top-entry.ensures.formula_stays c.for_top-entry.ensures.mask_stays;
-    })
+    }))
 
 pub returns-clause-repeats_step : goal.returns-clause-repeats_step
 returns-clause-repeats_step g c =
@@ -38,9 +39,9 @@ returns-clause-repeats_step g c =
     let index_lt_marks : index < length i.marks.items =
     omega (arith, c.index_of_mark-index.ensures.index_lt_length, ap length c.deref.ensures.value) in
     let index_lt : index < length i.marked.items =
-    omega (arith, index_lt_marks, c.self.invariant.is_machine.enough_marked) in
+    omega (arith, index_lt_marks, c.self.invariant.of_marked.is_machine.enough_marked) in
     let m = c.index.result.now in
-    rw c.in_ok-push.ensures.items (repeated_state c.self.invariant.is_machine index m
+    rw c.in_ok-push.ensures.items (repeated_state c.self.invariant.of_marked.is_machine index m
     c.for_top-entry.result index_lt (c.index.ensures ∙ get_or_default i.marked.items index m
     no_entry index_lt) c.for_top-entry.ensures.is_entry c.for_top-entry.ensures.formula_stays
     c.for_top-entry.ensures.needs_all c.args.step c.args.self.now c.self.view_is index_lt_marks
