@@ -6,14 +6,15 @@ _mmquery() {
     if [ "$word" = = ]; then word=; elif [ "$before" = = ]; then
         before=${COMP_WORDS[COMP_CWORD - 2]}; fi
     if [ "$COMP_CWORD" -eq 1 ]; then
-        words='verify rests falls cites cited-by uncited why way-out frees spare repeats unneeded top sets within same compare review history gate chapters proofs order unfinished discouraged mathboxes definitions equivalents search needs move graph picture page set-proof export cache --help --version'
+        words='verify rests falls cites cited-by uncited why way-out frees spare repeats unneeded top sets within same compare review history gate chapters proofs order unfinished discouraged mathboxes definitions equivalents search needs drop move graph picture page set-proof export cache --help --version'
     else
         case ${COMP_WORDS[1]}:$before in
-            verify:--format | rests:--format | falls:--format | cites:--format | cited-by:--format | uncited:--format | why:--format | way-out:--format | frees:--format | spare:--format | repeats:--format | unneeded:--format | top:--format | sets:--format | within:--format | same:--format | compare:--format | history:--format | chapters:--format | proofs:--format | order:--format | unfinished:--format | discouraged:--format | mathboxes:--format | equivalents:--format | search:--format | needs:--format | move:--format | export:--format | cache:--format) words='text tsv csv json' ;;
+            verify:--format | rests:--format | falls:--format | cites:--format | cited-by:--format | uncited:--format | why:--format | way-out:--format | frees:--format | spare:--format | repeats:--format | unneeded:--format | top:--format | sets:--format | within:--format | same:--format | compare:--format | history:--format | chapters:--format | proofs:--format | order:--format | unfinished:--format | discouraged:--format | mathboxes:--format | equivalents:--format | search:--format | needs:--format | drop:--format | move:--format | export:--format | cache:--format) words='text tsv csv json' ;;
             review:--format) words='text tsv csv json markdown' ;;
             gate:--format) words='text log json github markdown' ;;
             definitions:--format) words='text tsv csv json github' ;;
             repeats:--how) words='same weaker instance' ;;
+            chapters:--between) words='part chapter section subsection' ;;
             proofs:--by) words='steps depth bytes' ;;
             graph:--as) words='dot graphml edges' ;;
             cache:cache) words='show clear' ;;
@@ -24,12 +25,12 @@ _mmquery() {
                     falls:-*) words='--any-of --all-of --without --only --all --axioms --ignore-definitions --essential --open --format --before --main --mathbox --under --like --not --among --no-cache --limit-time --limit-memory -h --help' ;;
                     cites:-*) words='--on --essential --open --format --before --main --mathbox --under --like --not --among --no-cache --limit-time --limit-memory -h --help' ;;
                     cited-by:-*) words='--essential --open --format --before --main --mathbox --under --like --not --among --no-cache --limit-time --limit-memory -h --help' ;;
-                    uncited:-*) words='--not-discouraged --outside-mathboxes --essential --open --format --before --main --mathbox --under --like --not --among --no-cache --limit-time --limit-memory -h --help' ;;
+                    uncited:-*) words='--not-discouraged --outside-mathboxes --at-most --essential --open --format --before --main --mathbox --under --like --not --among --no-cache --limit-time --limit-memory -h --help' ;;
                     why:-*) words='--all --longest --unavoidable --essential --open --format --no-cache --limit-time --limit-memory -h --help' ;;
                     way-out:-*) words='--keep --keep-wrappers --essential --open --format --before --main --mathbox --under --like --not --among --no-cache --limit-time --limit-memory -h --help' ;;
                     frees:-*) words='--most --plan --given --keep --keep-wrappers --essential --open --format --before --main --mathbox --under --like --not --among --no-cache --limit-time --limit-memory -h --help' ;;
                     spare:-*) words='--all --shorter --new-steps --theorem --may-gain --write --proof --only --open --jobs --cite-discouraged --cite-old --cite-mathboxes --change-discouraged --format --no-cache --limit-time --limit-memory -h --help' ;;
-                    repeats:-*) words='--only --open --kept --how --format --before --main --mathbox --under --like --not --among --no-cache --limit-time --limit-memory -h --help' ;;
+                    repeats:-*) words='--only --open --kept --other-mathboxes --how --format --before --main --mathbox --under --like --not --among --no-cache --limit-time --limit-memory -h --help' ;;
                     unneeded:-*) words='--hypotheses --disjoint --symbols --open --format --before --main --mathbox --under --like --not --among --no-cache --limit-time --limit-memory -h --help' ;;
                     top:-*) words='--theorems --below --against --only --all --axioms --ignore-definitions --essential --open --format --before --main --mathbox --under --like --not --among --no-cache --limit-time --limit-memory -h --help' ;;
                     sets:-*) words='--together --only --all --axioms --ignore-definitions --essential --open --format --before --main --mathbox --under --like --not --among --no-cache --limit-time --limit-memory -h --help' ;;
@@ -39,16 +40,17 @@ _mmquery() {
                     review:-*) words='--only --all --axioms --ignore-definitions --essential --open --format --no-cache --limit-time --limit-memory -h --help' ;;
                     history:-*) words='--of --faults --essential --open --format --no-cache --limit-time --limit-memory -h --help' ;;
                     gate:-*) words='--base --merge-base --config --config-of-new --summary --all --format --no-cache --limit-time --limit-memory -h --help' ;;
-                    chapters:-*) words='--no-empty --any --only --all --axioms --ignore-definitions --essential --open --format --no-cache --limit-time --limit-memory -h --help' ;;
+                    chapters:-*) words='--no-empty --any --between --of --only --all --axioms --ignore-definitions --essential --open --format --no-cache --limit-time --limit-memory -h --help' ;;
                     proofs:-*) words='--by --most --essential --open --format --before --main --mathbox --under --like --not --among --no-cache --limit-time --limit-memory -h --help' ;;
                     order:-*) words='--only --all --axioms --ignore-definitions --essential --open --format --before --main --mathbox --under --like --not --among --no-cache --limit-time --limit-memory -h --help' ;;
                     unfinished:-*) words='--essential --open --format --before --main --mathbox --under --like --not --among --no-cache --limit-time --limit-memory -h --help' ;;
                     discouraged:-*) words='--essential --open --format --before --main --mathbox --under --like --not --among --no-cache --limit-time --limit-memory -h --help' ;;
-                    mathboxes:-*) words='--essential --open --format --before --main --mathbox --under --like --not --among --no-cache --limit-time --limit-memory -h --help' ;;
+                    mathboxes:-*) words='--ready --essential --open --format --before --main --mathbox --under --like --not --among --no-cache --limit-time --limit-memory -h --help' ;;
                     definitions:-*) words='--trust --equality --basis --expand --without --essential --open --format --before --main --mathbox --under --like --not --among --no-cache --limit-time --limit-memory -h --help' ;;
                     equivalents:-*) words='--without --only --all --axioms --ignore-definitions --essential --open --format --no-cache --limit-time --limit-memory -h --help' ;;
                     search:-*) words='--given --open --format --before --main --mathbox --under --like --not --among --no-cache --limit-time --limit-memory -h --help' ;;
                     needs:-*) words='--tree --open --format --before --main --mathbox --under --like --not --among --no-cache --limit-time --limit-memory -h --help' ;;
+                    drop:-*) words='--essential --open --format --no-cache --limit-time --limit-memory -h --help' ;;
                     move:-*) words='--to --format --no-cache --limit-time --limit-memory -h --help' ;;
                     graph:-*) words='--as --depth --through --landmarks --essential --open --no-cache --limit-time --limit-memory -h --help' ;;
                     picture:-*) words='--png --svg --across --down --only --all --axioms --ignore-definitions --essential --open --no-cache --limit-time --limit-memory -h --help' ;;

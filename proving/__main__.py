@@ -53,7 +53,7 @@ def main() -> int:
         return take(TOP)
     jobs = max(words.jobs, 1)
     choice = Choice(words.names, jobs, words.anew, words.keep)
-    return int(toolchain.rt().where_disk_lasts(try_bodies, choice))
+    return toolchain.where_disk_lasts(try_bodies, choice)
 
 
 if __name__ == "__main__":

@@ -3,6 +3,7 @@
 import copy
 import re
 from collections.abc import Callable
+from concurrent.futures import ThreadPoolExecutor
 from typing import Any
 
 from proving import toolchain
@@ -18,12 +19,19 @@ FOR_A_REASON = re.compile(r"refused, as it must be: (.*)", re.DOTALL)
 Given = dict[object, Any]
 
 
-def try_alone(tree: Tree, edits: list[Edit], is_anew: bool = False) -> None:
-    """Tries these edits by the toolchain's own call, and notes what it says.
+def try_alone(tree: Tree, edits: list[Edit], jobs: int = 1, is_anew: bool = False) -> None:
+    """Tries these edits by the toolchain's own call, so many crates at once, and notes what it
+    says.
 
     It begins with what a check of the crate proved, as `rt ci` does, and keeps what it found for
-    `rt ci` too.
+    `rt ci` too, if that keeps anything.
     """
+    if not toolchain.keeps():
+        by_crate = {edit.crate.name: edit.crate for edit in edits}.values()
+        with ThreadPoolExecutor(jobs) as pool:
+            for _ in pool.map(lambda crate: try_plainly(crate, edits), by_crate):
+                pass
+        return
     rt = toolchain.rt()
     kept = copy.copy(tree.kept)
     kept.anew = is_anew
@@ -37,6 +45,15 @@ def try_alone(tree: Tree, edits: list[Edit], is_anew: bool = False) -> None:
         for edit, (kind, said) in zip(own, answers(given), strict=True):
             edit.way = "alone"
             judge(edit, kind, said)
+
+
+def try_plainly(crate: Crate, edits: list[Edit]) -> None:
+    """Tries those of the edits that are of a crate, by a toolchain that keeps nothing."""
+    own = [edit for edit in edits if edit.crate is crate]
+    answers = toolchain.tried_alone(crate, [str(edit.path) for edit in own])
+    for edit, (kind, said) in zip(own, answers, strict=True):
+        edit.way = "alone"
+        judge(edit, kind, said)
 
 
 def added(
@@ -57,12 +74,11 @@ def added(
 def judge(edit: Edit, kind: str, said: str) -> None:
     """Notes what the toolchain says of an edit. A refusal without a reason, or only since a proof
     names what the edit took away, or only by a limit of the prover, doesn't count."""
-    rt = toolchain.rt()
     found = FOR_A_REASON.search(said)
     by_names = "(only" in said or (found and NAMES.search(found[1]))
-    if kind == rt.REFUSED and found and not by_names:
+    if kind == toolchain.refused() and found and not by_names:
         edit.refused = found[1]
-    elif kind == rt.REFUSED:
+    elif kind == toolchain.refused():
         why = "only because a proof names what it took away" if by_names else "for no reason"
         edit.failed = f"refused {why}, which says nothing of the contract"
     else:

@@ -68,8 +68,7 @@ def try_bodies(choice: Choice, top: Path = TOP) -> int:
     The last line is 'N passed, M failed': N edits are refused, each for a reason, and M are not,
     or something else isn't as it must be. Without that line the run came to no end.
     """
-    rt = toolchain.rt()
-    rt.sweep()
+    toolchain.sweep()
     with tempfile.TemporaryDirectory(prefix=f"rt-copy-{os.getpid()}-") as room:
         end_with(room)
         tree = Tree(top, Path(room))
@@ -119,7 +118,7 @@ def tried(tree: Tree, choice: Choice, tell: Teller) -> int:
         tell(f"{edit.name}: tried alone, since {edit.unclear}")
     before = busy()
     if left:
-        try_alone(tree, left, choice.is_anew)
+        try_alone(tree, left, choice.jobs, choice.is_anew)
     for edit in left:
         results.keep(edit)
     trials.sort(key=lambda it: str(it.crate.name))

@@ -16,7 +16,18 @@ from proving.tree import Tree
 
 
 # The modules that judge an edit.
-JUDGES = ("alone", "copies", "edits", "functions", "laws", "toolchain", "tree", "trial", "verdicts")
+JUDGES = (
+    "alone",
+    "copies",
+    "edits",
+    "functions",
+    "keeping",
+    "laws",
+    "toolchain",
+    "tree",
+    "trial",
+    "verdicts",
+)
 
 
 @functools.cache
@@ -44,10 +55,10 @@ class Results:
     def take(self, edit: Edit) -> None:
         """Notes in an edit that an earlier run refused it, if one did."""
         found = None if self.is_anew else self.kept.tried(self.name(edit))
-        if found and found[0] == toolchain.rt().REFUSED:
+        if found and found[0] == toolchain.refused():
             edit.refused, edit.unclear, edit.way = found[1], "", "kept"
 
     def keep(self, edit: Edit) -> None:
         """Keeps the refusal of an edit."""
         if edit.refused and edit.way != "kept":
-            self.kept.keep_tried(self.name(edit), toolchain.rt().REFUSED, edit.refused)
+            self.kept.keep_tried(self.name(edit), toolchain.refused(), edit.refused)

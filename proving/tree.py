@@ -1,6 +1,6 @@
 """A copy of the crates over the libraries that `rt ci` proved of the same files.
 
-`rt ci` keeps what it proved outside of every checkout, each crate under the sum of all that it was
+What `rt ci` proved is kept outside of every checkout, each crate under the sum of all that it was
 made from: its own files, the toolchain, and the libraries below as they were built. From there they
 are taken here, and from nowhere else. What lies in a folder `out/` of the repository may be of
 other sources: after a run, `rt ci` puts the libraries back that were there before it.
@@ -37,14 +37,10 @@ class Tree:
         # The first call sets the handler of a signal, which the main thread alone may do.
         rt.rtlib.guarded()
         self.top = room / "repo"
-        rt.copy_crates(str(top), str(self.top))
-        # `rt` wants the crates at the top of a repository.
-        (self.top / ".git").mkdir()
         rt.Crate.cuts_libraries = True
-        rt.Crate.allowed = rt.handles_of(str(self.top))
-        crates = rt.crates_of(str(self.top))
+        crates = toolchain.copied_crates(str(top), str(self.top))
         self.crates: dict[str, Crate] = {crate.name: crate for crate in crates}
-        self.kept = rt.Kept(crates)
+        self.kept = toolchain.kept(crates)
         # The crates that were taken or proved.
         self.proved: set[str] = set()
 

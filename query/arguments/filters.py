@@ -60,7 +60,8 @@ class Filters:
         if self.before is not None:
             stretches.append((0, database.assertion(self.before).number))
         if self.under is not None:
-            stretches.append(chapter(text, name, self.under))
+            header = header_of(text, name, self.under)
+            stretches.append((header.first, header.end))
         boxes = None if self.mathbox is None else mathboxes_of(text, name, self.mathbox)
 
         def stands(label: str) -> bool:
@@ -85,17 +86,18 @@ class Filters:
         return tests
 
 
-def chapter(text: Text, name: str, wanted: str) -> tuple[int, int]:
-    """The assertions of a chapter: the number of the first one, and of the one after the last.
-    NoAnswer where no header has this number or title, or several have the title."""
+def header_of(text: Text, name: str, wanted: str, level: int | None = None) -> Header:
+    """The header of a number or a title, of this level if one of those is. NoAnswer where no header
+    has it, or several have the title."""
     found = [header for header in text.headers if header.number == wanted]
     found = found or [header for header in text.headers if is_titled(header, wanted)]
+    found = [header for header in found if header.level == level] or found
     if not found:
         raise NoAnswer(f"{name}: has no header '{shown(wanted)}'; `mmquery chapters` lists them")
     if len(found) > 1:
         numbers = ", ".join(header.number for header in found)
         raise NoAnswer(f"{name}: several headers have the title '{shown(wanted)}': {numbers}")
-    return found[0].first, found[0].end
+    return found[0]
 
 
 def is_titled(header: Header, title: str) -> bool:

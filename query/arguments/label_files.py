@@ -1,7 +1,10 @@
-"""Files of labels: one or more on a line, and a comment after a `#`."""
+"""Labels that a command is given: in files, one or more on a line, and a comment after a `#`; or by
+patterns, in which `*` is anything and `?` any character. No label has these signs."""
 
 import argparse
 import os
+from collections.abc import Iterable, Sequence
+from fnmatch import fnmatchcase
 
 from query.answers.errors import NoAnswer, reason, shown
 from query.arguments.options import Parser
@@ -37,3 +40,19 @@ def labels_of(arguments: argparse.Namespace) -> list[str]:
             raise NoAnswer(f"{shown(path)}: the list is empty")
         labels += [word for _, word in words]
     return labels
+
+
+def labels_like(words: Sequence[str], known: Iterable[str], name: str) -> list[str]:
+    """The labels that words name, each once: a pattern those of the known ones that are like it, in
+    their order, and another word itself. NoAnswer where none is like a pattern of the database that
+    messages call so."""
+    found: dict[str, None] = {}
+    for word in words:
+        if "*" not in word and "?" not in word:
+            found[word] = None
+            continue
+        alike = [label for label in known if fnmatchcase(label, word)]
+        if not alike:
+            raise NoAnswer(f"{name}: has no label like '{shown(word)}'")
+        found.update(dict.fromkeys(alike))
+    return list(found)

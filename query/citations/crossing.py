@@ -1,10 +1,12 @@
-"""Citations of some assertions, and those that lead into a mathbox from outside it."""
+"""Citations of some assertions, those that lead into a mathbox from outside it or from one header
+to another, and what in mathboxes rests on nothing in them."""
 
 from __future__ import annotations
 
 from collections.abc import Iterable, Iterator
 
 from query.citations.graph import Graph
+from query.texts.assertions import Assertion
 from query.texts.text import Text
 
 
@@ -34,3 +36,56 @@ def across_mathboxes(graph: Graph, text: Text) -> Iterator[tuple[str, str, str |
     order = {node: number for number, node in enumerate(boxes)}
     for each, user in sorted(found, key=lambda pair: (order[pair[0]], pair[1])):
         yield graph.labels[user], graph.labels[each], names.get(user), names[each]
+
+
+def fit_for_main(graph: Graph, text: Text) -> list[int]:
+    """The theorems in mathboxes that rest on nothing in a mathbox, and have no symbol that only
+    formulas in mathboxes have; in file order."""
+    boxed = {graph.index[one.label] for one, _, _ in text.boxed() if one.label in graph.index}
+    resting = graph.above(boxed)
+    known = symbols_of_main(text)
+    return [
+        node
+        for node in sorted(boxed)
+        if graph.is_theorem(node)
+        and resting.isdisjoint(graph.cites[node])
+        and known.issuperset(constants_of(text.by_label[graph.labels[node]]))
+    ]
+
+
+def symbols_of_main(text: Text) -> set[str]:
+    """The constants that formulas of axioms outside of mathboxes have."""
+    found: set[str] = set()
+    for one in text.assertions:
+        if one.kind == "a" and text.box(one) is None:
+            found |= constants_of(one)
+    return found
+
+
+def constants_of(one: Assertion) -> set[str]:
+    """The constants in the formulas of an assertion and of its hypotheses."""
+    hypotheses = one.frame().hypotheses()
+    variables = {each.formula.partition(" ")[2] for each in hypotheses if each.kind == "f"}
+    given = [each.formula for each in hypotheses if each.kind == "e"]
+    return {
+        symbol for formula in (one.formula, *given) for symbol in formula.split(" ")
+    } - variables
+
+
+def citing_headers(graph: Graph, text: Text, level: int) -> dict[tuple[int, int], list[int]]:
+    """For two headers of a level, by their numbers from 0, the theorems below the first that cite
+    something below the other; rising. What stands before the first header of the level, or behind
+    the last one that an outer header ends, is below none."""
+    below: list[int | None] = [None] * len(text.assertions)
+    for number, header in enumerate(text.headers):
+        if header.level == level:
+            below[header.first : header.end] = [number] * (header.end - header.first)
+    header_of = [below[text.by_label[label].number] for label in graph.labels]
+    found: dict[tuple[int, int], list[int]] = {}
+    for theorem in range(graph.theorems):
+        own = header_of[theorem]
+        if own is not None:
+            for other in {header_of[cited] for cited in graph.cites[theorem]} - {own, None}:
+                assert other is not None
+                found.setdefault((own, other), []).append(theorem)
+    return dict(sorted(found.items()))

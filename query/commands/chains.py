@@ -31,8 +31,9 @@ error says so.
 
 label    what is on the chain
 
-With --longest it is a longest chain instead, of several again the one that comes first. With
---unavoidable it is what every chain leads through, both ends included.
+With --longest it is a longest chain instead, of several again the one that comes first; without ON
+a longest one of all that lead down from LABEL. With --unavoidable it is what every chain leads
+through, both ends included.
 
 With --all, the part of the graph between: all citations that are on a chain, in file order.
 
@@ -42,6 +43,7 @@ cited    what is cited
   $ mmquery why set.mm zorn ax-ac2
   $ mmquery why set.mm zorn ax-ac2 --all
   $ mmquery why set.mm 2p2e4 ax-1 --longest
+  $ mmquery why set.mm 2p2e4 --longest
   $ mmquery why set.mm fta ax-inf2 --unavoidable
 """
 
@@ -114,7 +116,7 @@ def configure_why(parser: Parser) -> None:
     """The words and options of `why`."""
     add_database(parser)
     parser.add_argument("label", metavar="LABEL")
-    parser.add_argument("on", metavar="ON")
+    parser.add_argument("on", metavar="ON", nargs="?")
     parser.exclude("--all", "--longest", "--unavoidable")
     parser.flag("--all", "all citations on chains between")
     parser.flag("--longest", "a longest chain in place of a shortest one")
@@ -127,6 +129,12 @@ def run_why(context: Context, arguments: argparse.Namespace) -> int:
     options = options_of(argparse.Namespace(**{**vars(arguments), "all": False}))
     database = context.database(arguments.database, options)
     graph = database.graph()
+    if arguments.on is None:
+        if not arguments.longest:
+            raise NoAnswer("why wants ON; without it, it answers --longest alone")
+        chain = longest_chain(graph, graph.node(arguments.label), None)
+        context.out.table(["label"], [[graph.labels[each]] for each in chain])
+        return 0
     node, end = graph.node(arguments.label), graph.node(arguments.on)
     found = longest_chain if arguments.longest else Graph.chain
     found = cuts.unavoidable if arguments.unavoidable else found
@@ -148,16 +156,20 @@ def run_why(context: Context, arguments: argparse.Namespace) -> int:
     return 0
 
 
-def longest_chain(graph: Graph, node: int, end: int) -> list[int]:
-    """A longest chain of citations from one node to another, both included; of several the one that
-    is first in the file at each step. Empty where there is none."""
-    far = {end: 0}
+def longest_chain(graph: Graph, node: int, end: int | None) -> list[int]:
+    """A longest chain of citations from one node to another, both included, or to what cites
+    nothing; of several the one that is first in the file at each step. Empty where there is
+    none."""
+    axioms = range(graph.theorems, len(graph.labels))
+    far = dict.fromkeys(axioms if end is None else [end], 0)
     for theorem in range(min(node + 1, graph.theorems)):
         steps = [far[each] for each in graph.cites[theorem] if each in far]
         if steps:
             far[theorem] = 1 + max(steps)
+        elif end is None:
+            far[theorem] = 0
     chain = [node] if node in far else []
-    while chain and chain[-1] != end:
+    while chain and far[chain[-1]]:
         left = far[chain[-1]] - 1
         chain.append(next(each for each in graph.cites[chain[-1]] if far.get(each) == left))
     return chain

@@ -1,10 +1,19 @@
 """`cites`, `cited-by` and `uncited`: direct citations."""
 
 import argparse
+from collections import Counter
 
 from query.answers.errors import shown
+from query.answers.output import Value
 from query.arguments.context import Context
-from query.arguments.options import Parser, add_choice_of_citations, add_database, options_of
+from query.arguments.label_files import labels_like
+from query.arguments.options import (
+    Parser,
+    add_choice_of_citations,
+    add_database,
+    options_of,
+    positive,
+)
 from query.citations.graph import Graph
 from query.commands import Command
 from query.texts.discouraged import is_discouraged
@@ -23,12 +32,14 @@ cited    what is cited
 """
 
 CITED_BY_PAGE = """
-Lists in file order the theorems whose proof itself applies LABEL.
+Lists in file order the theorems whose proof itself applies LABEL. A LABEL may be a pattern, in
+which * is anything and ? any character: then it is each theorem and axiom like that.
 
 theorem  who cites it
 cited    what is cited, one of the LABELs
 
   $ mmquery cited-by set.mm ax-ac2
+  $ mmquery cited-by set.mm '*OLD'
 """
 
 UNCITED_PAGE = """
@@ -39,8 +50,14 @@ on which nothing rests are listed by `top --below 1`.
 
 theorem  the label of the theorem
 
+With --at-most N, the theorems that N others or fewer cite:
+
+citing   how many cite it
+theorem  the label of the theorem
+
   $ mmquery uncited set.mm
   $ mmquery uncited set.mm --main --not-discouraged
+  $ mmquery uncited set.mm --at-most 1
 """
 
 
@@ -85,14 +102,16 @@ def configure_cited_by(parser: Parser) -> None:
 def run_cited_by(context: Context, arguments: argparse.Namespace) -> int:
     """Answers `cited-by`."""
     graph = context.database(arguments.database, options_of(arguments)).graph()
-    nodes = [graph.node(label) for label in dict.fromkeys(arguments.labels)]
+    labels = labels_like(arguments.labels, graph.labels, graph.name)
+    nodes = [graph.node(label) for label in labels]
     rows = [
         [graph.labels[user], graph.labels[node]]
         for node, users in graph.citing(nodes).items()
         for user in users
     ]
     why = f"{graph.name}: no theorem cites {shown(' or '.join(arguments.labels))}"
-    context.table(PAIRS, rows, why, "theorem", ["cited"] if len(nodes) == 1 else [])
+    is_of_one = len(labels) == 1 and labels == arguments.labels
+    context.table(PAIRS, rows, why, "theorem", ["cited"] if is_of_one else [])
     return 0
 
 
@@ -101,31 +120,37 @@ def configure_uncited(parser: Parser) -> None:
     add_database(parser)
     parser.flag("--not-discouraged", "only those whose new usage isn't discouraged")
     parser.flag("--outside-mathboxes", "those that nothing outside of mathboxes cites")
+    parser.value("--at-most", "N", "those that at most N theorems cite", type=positive)
     add_choice_of_citations(parser)
 
 
 def run_uncited(context: Context, arguments: argparse.Namespace) -> int:
     """Answers `uncited`."""
     database = context.database(arguments.database, options_of(arguments))
-    graph = database.graph()
-    cited = set(graph.cites.targets)
+    graph, most = database.graph(), arguments.at_most or 0
     if arguments.outside_mathboxes:
-        cited = cited_outside(database.text, graph)
-    labels = [graph.labels[node] for node in range(graph.theorems) if node not in cited]
-    which = ""
+        counts = counts_outside(graph, database.text)
+    else:
+        counts = Counter(graph.cites.targets)
+    nodes = [node for node in range(graph.theorems) if counts[node] <= most]
+    which = f"that at most {most} cite" if most else "that nobody cites"
     if arguments.not_discouraged:
         text = database.text
-        labels = [each for each in labels if not is_discouraged(text, text.by_label[each])]
-        which = " and that may be cited"
-    rows = [[label] for label in labels]
-    why = f"{graph.name}: there is no theorem that nobody cites{which}"
-    context.table(["theorem"], rows, why, "theorem")
+        ones = [text.by_label[graph.labels[node]] for node in nodes]
+        nodes = [node for node, one in zip(nodes, ones) if not is_discouraged(text, one)]
+        which += " and that may be cited"
+    rows: list[list[Value]] = [[counts[node], graph.labels[node]] for node in nodes]
+    why = f"{graph.name}: there is no theorem {which}"
+    if most:
+        context.table(["citing", "theorem"], rows, why, "theorem")
+    else:
+        context.table(["theorem"], [row[1:] for row in rows], why, "theorem")
     return 0
 
 
-def cited_outside(text: Text, graph: Graph) -> set[int]:
-    """What is cited by theorems that stand in no mathbox."""
-    found: set[int] = set()
+def counts_outside(graph: Graph, text: Text) -> Counter[int]:
+    """By how many theorems that stand in no mathbox each node is cited."""
+    found: Counter[int] = Counter()
     for node in range(graph.theorems):
         if text.box(text.by_label[graph.labels[node]]) is None:
             found.update(graph.cites[node])

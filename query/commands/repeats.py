@@ -2,6 +2,7 @@
 
 import argparse
 from collections.abc import Iterator
+from typing import NamedTuple
 
 from query.answers.output import Value
 from query.arguments.context import Context
@@ -10,9 +11,9 @@ from query.arguments.options import Parser, add_database, add_only, add_open
 from query.commands import Command
 from query.platform import progress
 from query.reports.choice import Options
-from query.reports.database import Dependence
+from query.reports.database import Database, Dependence, result_key
 from query.spare.conventions import LAST, conventions_of, is_fit
-from query.spare.repeats import HOW, Finder
+from query.spare.repeats import FORM, HOW, Finder, Found, load, store
 from query.spare.rules import UNREAD, Rule, Rules, rules_of
 from query.spare.search import Shelf
 from query.texts.discouraged import is_discouraged
@@ -34,8 +35,10 @@ besides  the axioms on which the earlier one rests, and the theorem doesn't
 With --how only these are listed.
 
 Theorems aren't listed whose label ends in ALT or OLD or that are discouraged, nor what repeats
-these, but with --kept. Neither is what repeats a statement of another mathbox. Standard error says
-of how many theorems it takes too long to find what they repeat.
+these, but with --kept. Neither is what repeats a statement of another mathbox alone, but with
+--other-mathboxes: what several mathboxes have may be wanted in the main part. Standard error says
+of how many theorems it takes too long to find what they repeat. What is found without filters is
+kept, so that it is answered at once with any filter and --how.
 
   $ mmquery repeats set.mm
   $ mmquery repeats iset.mm --main
@@ -51,6 +54,7 @@ def configure(parser: Parser) -> None:
     add_only(parser, "|-")
     add_open(parser)
     parser.flag("--kept", "also labels that end in ALT or OLD, and discouraged")
+    parser.flag("--other-mathboxes", "also what repeats a statement of another mathbox")
     parser.add_argument("--how", choices=HOW, help="only those that repeat so (else: all)")
 
 
@@ -73,22 +77,51 @@ def run(context: Context, arguments: argparse.Namespace) -> int:
     )
     database.see_text()
     dependence = database.dependence()
-    kept: bool = arguments.kept
-    rules = rules_of(database, arguments.only)
-    shelf = Shelf(rules, conventions_of(rules, cites_discouraged=kept, cites_old=kept))
-    finder = Finder(rules, shelf)
-    found = finder.repeats(candidates(rules, kept, context.test()))
+    passes = context.test()
+    sought = Sought(arguments.only, arguments.kept, arguments.other_mathboxes)
+    found = found_in(context, database, sought)
     how: str | None = arguments.how
-    rows = [[one.theorem, one.earlier, one.how] for one in found if how in (None, one.how)]
+    rows = [
+        [one.theorem, one.earlier, one.how]
+        for one in found.repeats
+        if how in (None, one.how) and passes(one.theorem)
+    ]
     so = "" if how is None else f" in the way '{how}'"
     context.table(
         COLUMNS,
         [[*row, *rests_apart(dependence, row[0], row[1])] for row in rows],
         f"{database.name}: no theorem says what an earlier statement says{so}",
         "theorem",
-        remarks={GIVEN_UP: finder.given_up, UNREAD: rules.unread},
+        remarks={GIVEN_UP: [*filter(passes, found.given_up)], UNREAD: found.unread},
     )
     return 0
+
+
+class Sought(NamedTuple):
+    """Among which statements repeats are sought: those of a typecode, with what is kept on purpose
+    or not, and with those of other mathboxes or not."""
+
+    typecode: str
+    has_kept: bool
+    has_other_mathboxes: bool
+
+
+def found_in(context: Context, database: Database, sought: Sought) -> Found:
+    """What theorems repeat: all of them, where there are no filters or that is kept, and otherwise
+    those that pass."""
+    key = result_key("repeats", FORM, database.key, *sought)
+    known = load(key) if database.uses_cache else None
+    if known is not None:
+        return known
+    rules = rules_of(database, sought.typecode)
+    kept, boxes = sought.has_kept, sought.has_other_mathboxes
+    conventions = conventions_of(rules, kept, kept, boxes)
+    finder = Finder(rules, Shelf(rules, conventions))
+    repeats = [*finder.repeats(candidates(rules, kept, context.test()))]
+    found = Found(repeats, finder.given_up, rules.unread)
+    if database.uses_cache and not context.filters.are_given:
+        store(key, found)
+    return found
 
 
 def rests_apart(dependence: Dependence, theorem: str, earlier: str) -> list[Value]:

@@ -1,12 +1,14 @@
 """`search`: statements by their formulas."""
 
 import argparse
+from collections.abc import Sequence
 
 from query.answers.output import Value
 from query.arguments.context import Context
 from query.arguments.options import Parser, add_database, add_open
 from query.commands import Command
-from query.formulas.search import Searcher, pattern_of
+from query.formulas.bracketed import bracketed
+from query.formulas.search import Pattern, Searcher, pattern_of
 from query.reports.choice import Options
 from query.texts.text import Text
 
@@ -15,8 +17,8 @@ Lists in file order the formulas that have each PATTERN: symbols as they are typ
 formula or of a part. A constant stands for itself. A variable stands for anything that may be put
 in its place, the same wherever it stands: `A ~~ B ->` finds `( ( A u. B ) ~~ C -> ph )`. In double
 quotes, as in '"A ~~ B ->"', a variable stands for itself, too. One that begins with - goes behind
---, after which nothing is an option. Where no formula has a PATTERN with one ->, standard error
-says how many have both its sides.
+--, after which nothing is an option. Where no formula has a PATTERN, standard error says how many
+have it with more brackets, as ( A + B ) for A + B, or both sides of its one ->.
 
 With --given PATTERN only those of statements that have a $e with that pattern too; with several, a
 $e for each. In all patterns together a variable stands for the same.
@@ -33,6 +35,7 @@ formula  the formula
 UNREAD = "{} formulas aren't read by the syntax axioms, so less may be found; the first is of {}"
 GIVEN_UP = "of {} formulas it takes too long to say whether they have it; the first is of {}"
 COLUMNS = ("label", "given", "formula")
+ARROW = "->"
 
 
 def configure(parser: Parser) -> None:
@@ -61,25 +64,33 @@ def run(context: Context, arguments: argparse.Namespace) -> int:
         for told, places in ((UNREAD, searcher.unread), (GIVEN_UP, searcher.given_up))
     }
     why = f"{database.name}: no formula has that"
-    if not rows and not given:
-        why += apart(searcher, text, database.name, arguments.patterns)
+    if not rows and not given and len(patterns) == 1 and '"' not in arguments.patterns[0]:
+        why += near(searcher, text, database.name, patterns[0])
     context.table(COLUMNS, rows, why, remarks=remarks)
     return 0
 
 
-def apart(searcher: Searcher, text: Text, name: str, words: list[str]) -> str:
-    """How many formulas have both sides of an arrow, wherever they stand, as the end of a sentence.
-    So what is stated by another arrow is found. "" where none has, or there aren't two sides."""
-    symbols = words[0].split()
-    if len(words) > 1 or symbols.count("->") != 1 or '"' in words[0]:
+def near(searcher: Searcher, text: Text, name: str, pattern: Pattern) -> str:
+    """How many formulas have a pattern with more brackets, or else both sides of its arrow wherever
+    they stand, as the end of a sentence. "" where none has."""
+    for more in bracketed(searcher.reader.grammar, pattern.symbols, pattern.kinds):
+        found = having(searcher, text, name, [more])
+        if found:
+            return found
+    symbols = pattern.symbols
+    if symbols.count(ARROW) != 1 or symbols[0] == ARROW or symbols[-1] == ARROW:
         return ""
-    place = symbols.index("->")
-    if place in (0, len(symbols) - 1):
-        return ""
-    both = [" ".join(part) for part in (symbols[:place], symbols[place + 1 :])]
-    count = sum(1 for _ in searcher.hits([pattern_of(text, name, each) for each in both]))
+    place = symbols.index(ARROW)
+    found = having(searcher, text, name, [symbols[:place], symbols[place + 1 :]])
+    return f"{found}, as two PATTERNs" if found else ""
+
+
+def having(searcher: Searcher, text: Text, name: str, patterns: Sequence[Sequence[str]]) -> str:
+    """How many formulas have all these patterns, as the end of a sentence; "" where none has."""
+    words = [" ".join(symbols) for symbols in patterns]
+    count = sum(1 for _ in searcher.hits([pattern_of(text, name, each) for each in words]))
     have = "formulas have" if count > 1 else "formula has"
-    return f"; {count} {have} {' and '.join(map(repr, both))}, as two PATTERNs" if count else ""
+    return f"; {count} {have} {' and '.join(map(repr, words))}" if count else ""
 
 
 COMMANDS = [Command("search", PAGE, configure, run, lists=True)]

@@ -8,6 +8,7 @@ from collections.abc import Sequence
 from query.answers.errors import NoAnswer, shown
 from query.answers.output import Value
 from query.arguments.context import Context
+from query.arguments.filters import header_of
 from query.arguments.options import (
     Parser,
     add_choice_of_axioms,
@@ -15,10 +16,11 @@ from query.arguments.options import (
     add_database,
     options_of,
 )
-from query.citations.crossing import across_mathboxes, citations
+from query.citations.crossing import across_mathboxes, citations, citing_headers, fit_for_main
+from query.citations.graph import Graph
 from query.commands import Command
 from query.reports.choice import Options
-from query.reports.database import Dependence
+from query.reports.database import Database, Dependence
 from query.texts.assertions import Assertion
 from query.texts.discouraged import discouraged_labels, is_proof_discouraged
 from query.texts.text import Text
@@ -38,10 +40,26 @@ Without an AXIOM there is a row for each header, and nothing in axiom, rest and 
 --no-empty there is no row where no theorem rests on the axiom, or, without an AXIOM, none stands.
 With --any each header has one row for all AXIOMs, which counts what rests on one of them or more.
 
+With --between LEVEL, which headers of one level build on which others, by what the proofs below
+them cite themselves. What the headers further down have counts for the one above.
+
+number    that of the header
+on        the number of another header, of which something is cited
+theorems  how many theorems below the first header cite something below the other
+first     the first of these
+title     that of the first header
+of        that of the other one
+
+With --of HEADER, a number or a title, only the rows that have it, on either side.
+
   $ mmquery chapters set.mm ax-ac2 ax-reg
   $ mmquery chapters set.mm ax-ac2 ax-cc --any
   $ mmquery chapters set.mm ax-ac2 --no-empty
+  $ mmquery chapters set.mm --between part --of 'elementary geometry'
 """
+
+LEVELS = ("part", "chapter", "section", "subsection")
+"""The levels of headers, the outermost first."""
 
 ORDER_PAGE = """
 Lists axioms and theorems together, in file order.
@@ -96,16 +114,36 @@ mathbox  in whose mathbox it is; none where it isn't in one
 cited    what it cites
 of       in whose mathbox that is
 
+With --ready, the theorems in mathboxes that may stand in the main part as they are: they rest on
+nothing that is in a mathbox, and have no symbol that only formulas in mathboxes have.
+
+theorem  the label of the theorem
+mathbox  in whose mathbox it is
+citing   how many theorems cite it
+after    the last of those that it cites, right behind which it may stand
+header   the number of the header under which that stands; of what cites nothing there is none
+
+The variables of such a theorem have to be declared there too. That no statement of the main part
+says the same is told by `repeats`.
+
   $ mmquery mathboxes set.mm
+  $ mmquery mathboxes set.mm --ready --mathbox 'Mario Carneiro'
 """
 
 
-def configure_with_axioms(parser: Parser) -> None:
+def configure_chapters(parser: Parser) -> None:
     """The words and options of `chapters`."""
     add_database(parser)
     parser.add_argument("axiom", metavar="AXIOM", nargs="*")
     parser.flag("--no-empty", "leave out headers under which nothing is counted")
     parser.flag("--any", "count what rests on one of the AXIOMs or more, in one row")
+    parser.add_argument(
+        "--between",
+        metavar="LEVEL",
+        choices=LEVELS,
+        help=f"which headers cite which others, of this level: {', '.join(LEVELS)}",
+    )
+    parser.value("--of", "HEADER", "with --between: only the rows of this header")
     add_choice_of_axioms(parser)
 
 
@@ -125,6 +163,11 @@ class Numbers:
 def run_chapters(context: Context, arguments: argparse.Namespace) -> int:
     """Answers `chapters`."""
     database = context.database(arguments.database, options_of(arguments))
+    if arguments.between is not None:
+        put_between(context, database, arguments)
+        return 0
+    if arguments.of is not None:
+        raise NoAnswer("--of wants --between LEVEL")
     dependence = database.dependence()
     if arguments.any and not arguments.axiom:
         raise NoAnswer("--any wants an AXIOM")
@@ -153,6 +196,28 @@ def run_chapters(context: Context, arguments: argparse.Namespace) -> int:
         aside=[] if asked else about,
     )
     return 0
+
+
+def put_between(context: Context, database: Database, arguments: argparse.Namespace) -> None:
+    """Lists which headers of a level cite which others."""
+    if arguments.axiom:
+        raise NoAnswer("--between is about citations, so it takes no AXIOM")
+    graph, text, level = database.graph(), database.text, LEVELS.index(arguments.between)
+    asked = None if arguments.of is None else header_of(text, database.name, arguments.of, level)
+    if asked is not None and asked.level != level:
+        number, its = asked.number, LEVELS[asked.level]
+        raise NoAnswer(f"{database.name}: the header {number} is a {its}: --between {its} has it")
+    headers = text.headers
+    rows: list[list[Value]] = []
+    for (one, other), users in citing_headers(graph, text, level).items():
+        both = headers[one], headers[other]
+        if asked is None or asked in both:
+            count, first = len(users), graph.labels[users[0]]
+            numbers, titles = [each.number for each in both], [each.title for each in both]
+            rows.append([*numbers, count, first, *titles])
+    which = f" of the level '{arguments.between}'" if asked is None else f" beside {asked.number}"
+    why = f"{database.name}: no header{which} cites what another one has"
+    context.table(["number", "on", "theorems", "first", "title", "of"], rows, why)
 
 
 def counted_axioms(
@@ -226,8 +291,8 @@ def run_unfinished(context: Context, arguments: argparse.Namespace) -> int:
     return 0
 
 
-def configure_citations(parser: Parser) -> None:
-    """The words and options of `discouraged` and `mathboxes`."""
+def configure_discouraged(parser: Parser) -> None:
+    """The words and options of `discouraged`."""
     add_database(parser)
     add_choice_of_citations(parser)
 
@@ -278,10 +343,20 @@ def run_discouraged(context: Context, arguments: argparse.Namespace) -> int:
     return 0
 
 
+def configure_mathboxes(parser: Parser) -> None:
+    """The words and options of `mathboxes`."""
+    add_database(parser)
+    parser.flag("--ready", "the theorems of mathboxes that may stand in the main part")
+    add_choice_of_citations(parser)
+
+
 def run_mathboxes(context: Context, arguments: argparse.Namespace) -> int:
     """Answers `mathboxes`."""
     database = context.database(arguments.database, options_of(arguments))
     graph = database.graph()
+    if arguments.ready:
+        put_ready(context, graph, database.text)
+        return 0
     rows = across_mathboxes(graph, database.text)
     context.table(
         ["theorem", "mathbox", "cited", "of"],
@@ -292,10 +367,29 @@ def run_mathboxes(context: Context, arguments: argparse.Namespace) -> int:
     return 0
 
 
+def put_ready(context: Context, graph: Graph, text: Text) -> None:
+    """Lists the theorems of mathboxes that may stand in the main part."""
+    ready = fit_for_main(graph, text)
+    citing = graph.citing(ready)
+    rows: list[list[Value]] = []
+    for node, users in citing.items():
+        label = graph.labels[node]
+        cited = [text.by_label[graph.labels[each]] for each in graph.cites[node]]
+        last = max(cited, key=lambda one: one.number, default=None)
+        after = (None, None) if last is None else (last.label, text.chapter_number(last))
+        rows.append([label, text.mathbox(text.by_label[label]), len(users), *after])
+    context.table(
+        ["theorem", "mathbox", "citing", "after", "header"],
+        rows,
+        f"{graph.name}: no theorem of a mathbox may stand in the main part as it is",
+        "theorem",
+    )
+
+
 COMMANDS = [
-    Command("chapters", CHAPTERS_PAGE, configure_with_axioms, run_chapters),
+    Command("chapters", CHAPTERS_PAGE, configure_chapters, run_chapters),
     Command("order", ORDER_PAGE, configure_order, run_order, lists=True),
     Command("unfinished", UNFINISHED_PAGE, configure_unfinished, run_unfinished, lists=True),
-    Command("discouraged", DISCOURAGED_PAGE, configure_citations, run_discouraged, lists=True),
-    Command("mathboxes", MATHBOXES_PAGE, configure_citations, run_mathboxes, lists=True),
+    Command("discouraged", DISCOURAGED_PAGE, configure_discouraged, run_discouraged, lists=True),
+    Command("mathboxes", MATHBOXES_PAGE, configure_mathboxes, run_mathboxes, lists=True),
 ]

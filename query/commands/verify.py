@@ -47,6 +47,8 @@ distinct   the two variables that must be distinct, for E36
 first, second   what stands for each of them
 lacking    the variable that both have, or two that no active $d has
 steps      the last five steps before: number, label and formula, which is cut where it is long
+missing    all pairs of variables that aren't distinct at this step and those behind it, or the
+           variable alone that both sides of a pair have; what to do names the first twenty
 
 All steps are counted, those too that build formulas, as metamath.exe's `show proof T /all` counts
 them. Each number of a compressed proof is a step; the label @N says that it repeats the step N. As
@@ -65,7 +67,17 @@ SHOWN_WORD = 1000
 """Bytes of a word that are shown."""
 FIELDS = ["line", "column", "code", "statement", "meaning", "advice"]
 FIELDS += ["proved", "wanted", "word", "declared"]
-FIELDS += ["step", "cited", "hypothesis", "distinct", "first", "second", "lacking", "steps"]
+FIELDS += [
+    "step",
+    "cited",
+    "hypothesis",
+    "distinct",
+    "first",
+    "second",
+    "lacking",
+    "steps",
+    "missing",
+]
 COLUMNS = ["valid", "axioms", "theorems", *FIELDS]
 
 

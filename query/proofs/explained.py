@@ -8,26 +8,28 @@ something is in the way, there is no explanation, and the refusal stands as it i
 
 from __future__ import annotations
 
-from collections.abc import Iterable, Iterator, Mapping, Sequence
+from collections.abc import Iterator, Mapping, Sequence
+from contextlib import suppress
 from dataclasses import replace
-from functools import cached_property
 
 from query.answers.errors import NoAnswer
 from query.platform import limits
 from query.program import mmdepend
 from query.program.refusals import Refused
 from query.program.source import Source
-from query.proofs.explanation import Clash, Explanation, Mismatch
+from query.proofs.apart import Apart, clashes, missing_from
+from query.proofs.explanation import Explanation, Mismatch
 from query.proofs.replay import (
-    COST_OF_STEP,
     Budget,
     Entry,
     Formula,
     Proof,
     Replay,
+    Rest,
     Rule,
     TooLong,
     proof_before,
+    rest_behind,
     size_of,
 )
 from query.proofs.text_before import TextBefore
@@ -39,8 +41,6 @@ CODES = ("E34", "E35", "E36", "E37", "E38", "E39")
 """The faults of steps, and of the ends of proofs."""
 MOST_SYMBOLS = 1_048_576
 """A formula of a proof that has more is the fault E39."""
-MOST_MISSING = 20
-"""So many pairs of variables are told that aren't distinct at a step."""
 LAST_ENTRIES = 5
 """Of so many entries of the stack it is told which step pushed them."""
 IN_THE_WAY = (LookupError, ValueError, NoAnswer, MemoryError, OSError)
@@ -65,7 +65,9 @@ def known_of(refusals: Sequence[Refused]) -> Known | None:
         bare_text = without_comments(source.data)
         places = [refusal.at() for refusal in refusals]
         proofs = [proof_before(bare_text, place) for place in places]
-        cited = {label.encode() for proof in proofs if proof for label in proof.labels}
+        rests = [rest_of(bare_text, *each) for each in zip(refusals, proofs)]
+        lists = [*(proof.labels for proof in proofs if proof), *(rest.labels for rest in rests)]
+        cited = {label.encode() for labels in lists for label in labels}
         outline = TextBefore(bare_text, places, cited)
         shorter = Source(source.name, outline.text())
         words = ["--open", "--report=statements"]
@@ -73,22 +75,35 @@ def known_of(refusals: Sequence[Refused]) -> Known | None:
         assertions = assertions_of(statements_of(said), shorter.data)
     except IN_THE_WAY:
         return None
-    return Known(refusals, proofs, outline, {one.label: one for one in assertions})
+    return Known(refusals, proofs, rests, outline, {one.label: one for one in assertions})
+
+
+def rest_of(bare_text: bytes, refusal: Refused, proof: Proof | None) -> Rest:
+    """The rest of a proof in which variables aren't distinct, since others may not be either. It is
+    the faulty step alone where the proof isn't whole; empty for other faults."""
+    if refusal.code != "E36" or proof is None or proof.faulty is None:
+        return Rest([], [], False)
+    with suppress(ValueError):
+        return rest_behind(bare_text, refusal.at(), proof)
+    return Rest(proof.labels, [proof.faulty], False)
 
 
 class Known:
     """What is known of a text, and of the proofs for which it is refused. A proof that is too long
-    is None. `told` has the theorems, and what their proofs cite, by labels."""
+    is None. `rests` has what is behind their faulty steps. `told` has the theorems, and what their
+    proofs cite, by labels."""
 
     def __init__(
         self,
         refusals: Sequence[Refused],
         proofs: Sequence[Proof | None],
+        rests: Sequence[Rest],
         outline: TextBefore,
         told: Mapping[str, Assertion],
     ) -> None:
         self.codes = [refusal.code for refusal in refusals]
         self.proofs = proofs
+        self.rests = rests
         self.outline = outline
         self.told = told
         self.budget = Budget(limits.EXPLAINED_SYMBOLS)
@@ -106,6 +121,7 @@ class Known:
 
     def _explained(self, number: int, proof: Proof) -> Explanation | None:
         theorem = self.outline.theorems[number]
+        apart = Apart(theorem.distinct(), self.outline.variables, self.budget)
         rule = Rule(self.told[theorem.label])
         labels = proof.labels_of(rule)
         replay = Replay(rule, self.rule, self.outline.floating, self.budget)
@@ -117,11 +133,16 @@ class Known:
             if begun.cited is None:
                 code, found = at_end(replay, rule)
             else:
-                apart = Apart(theorem.distinct(), self.outline.variables, self.budget)
                 code, found = at_step(replay, begun, begun.cited, apart)
         except TooLong:
             return replace(begun, is_too_long=True)
-        return replace(found, last=tuple(replay.last)) if code == self.codes[number] else None
+        found = replace(found, last=tuple(replay.last))
+        if found.clash is not None:
+            rest = self.rests[number]
+            rest = rest._replace(labels=proof.labels_of(rule, rest.labels))
+            missing = missing_from(replay, rest, apart, found.clash.variables)
+            found = replace(found, clash=replace(found.clash, missing=missing))
+        return found if code == self.codes[number] else None
 
     def rule(self, label: str) -> Rule | None:
         """The assertion of a label; None where there is none, since it is that of a hypothesis."""
@@ -162,7 +183,7 @@ def at_step(
         return "E35", replace(begun, mismatch=mismatch)
     clash = next(clashes(rule, values, apart), None)
     if clash is not None:
-        return "E36", replace(begun, clash=replace(clash, missing=missing(rule, values, apart)))
+        return "E36", replace(begun, clash=clash)
     return of_size(begun, size_of(rule.formula, values))
 
 
@@ -185,70 +206,3 @@ def mismatch_of(
         if wanted != entry.formula:
             return Mismatch(hypothesis, wanted, entry)
     return None
-
-
-def clashes(rule: Rule, values: Mapping[str, Formula], apart: Apart) -> Iterator[Clash]:
-    """The pairs of variables that must be distinct, and for which something stands that isn't."""
-    for one, other in rule.frame.pairs():
-        both = values[one], values[other]
-        variables = next(apart.lacking(*both), None)
-        if variables is not None:
-            yield Clash((one, other), both, variables)
-
-
-def missing(rule: Rule, values: Mapping[str, Formula], apart: Apart) -> tuple[tuple[str, ...], ...]:
-    """What is lacking at all pairs of a step, each once, as far as the budget lets it be found."""
-    found: dict[frozenset[str], tuple[str, ...]] = {}
-    try:
-        for one, other in rule.frame.pairs():
-            for variables in apart.lacking(values[one], values[other]):
-                found.setdefault(frozenset(variables), variables)
-                if len(found) == MOST_MISSING:
-                    return tuple(found.values())
-    except TooLong:
-        pass
-    return tuple(found.values())
-
-
-class Apart:
-    """Which variables are distinct at a theorem, by the words of the `$d` that are active there. To
-    look at a pair counts for as many symbols as a step."""
-
-    def __init__(
-        self, distinct: Iterable[bytes], variables: frozenset[str], budget: Budget
-    ) -> None:
-        self.distinct = distinct
-        self.variables = variables
-        self.budget = budget
-
-    @cached_property
-    def sets(self) -> dict[str, list[frozenset[str]]]:
-        """For each variable the `$d` that have it."""
-        found: dict[str, list[frozenset[str]]] = {}
-        for words in self.distinct:
-            names = frozenset(words.decode("latin-1").split())
-            self.budget.take(len(names))
-            for name in names:
-                found.setdefault(name, []).append(names)
-        return found
-
-    def of(self, formula: Formula) -> list[str]:
-        """The variables of a formula, each once, in its order."""
-        self.budget.take(len(formula))
-        return [symbol for symbol in dict.fromkeys(formula) if symbol in self.variables]
-
-    def lacking(self, one: Formula, other: Formula) -> Iterator[tuple[str, ...]]:
-        """A variable that both have, or else the pairs of which no `$d` has both."""
-        self.budget.take(COST_OF_STEP)
-        left, right = self.of(one), self.of(other)
-        common = {*left} & {*right}
-        if common:
-            yield (next(name for name in left if name in common),)
-            return
-        for name in left:
-            self.budget.take(len(right))
-            others = {*right}
-            for each in self.sets.get(name, ()):
-                self.budget.take(len(others) + 1)
-                others -= each
-            yield from ((name, each) for each in right if each in others)

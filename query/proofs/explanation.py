@@ -7,7 +7,7 @@ gets it whole, or not at all where it is very long.
 
 from __future__ import annotations
 
-from collections.abc import Iterator
+from collections.abc import Iterator, Sequence
 from dataclasses import dataclass
 from itertools import islice
 
@@ -21,11 +21,15 @@ SHOWN_FORMULA = 300
 """How many characters of a formula are shown."""
 SHOWN_NAME = 100
 """How many characters of a label or of a variable are shown."""
+SHOWN_PAIRS = 20
+"""How many pairs of variables are shown that lack a `$d`."""
 WIDEST = 20
 """The formulas of steps are aligned behind labels of so many characters at the most."""
 SYMBOLS_BEFORE = 10
 """So many symbols of very long formulas are shown before the one in which they differ."""
 
+Variables = tuple[str, ...]
+"""One that two formulas have, or two that aren't distinct."""
 Line = tuple[str, str]
 """Of what something is told, and what; together they read as a sentence."""
 
@@ -43,47 +47,66 @@ class Mismatch:
         """In words."""
         wanted, found = both_in_words(self.wanted, self.entry.formula, most)
         formula = cut(self.hypothesis.formula, most)
-        yield "its hypothesis", f"{cut(self.hypothesis.label, SHOWN_NAME)}, {formula}"
+        yield "its hypothesis", f"{name(self.hypothesis.label)}, {formula}"
         yield "it wants", wanted
         yield f"step {self.entry.step} has", found
 
 
 @dataclass(frozen=True)
+class Missing:
+    """What is lacking at a faulty step and at those behind it, each once. `unseen` is the step from
+    which on it isn't known; None where it is of all steps."""
+
+    found: tuple[Variables, ...] = ()
+    unseen: int | None = None
+
+    def advice(self) -> str:
+        """What to do about it. A `$d` of one variable twice can't be."""
+        pairs = [f"$d {' '.join(sorted(map(name, each)))} $." for each in self.found if each[1:]]
+        common = [name(each[0]) for each in self.found if not each[1:]]
+        said = []
+        if pairs:
+            said.append(f"add `{several(pairs, ' ', '`')} to the theorem, or use other variables")
+        if common:
+            said.append(
+                f"use another variable in place of {several(common, ' and ')} on one side: no `$d`"
+                " helps there"
+            )
+        if self.unseen is not None:
+            said.append(f"what the steps from {self.unseen} on lack isn't known")
+        return "; ".join(said)
+
+
+def several(words: Sequence[str], between: str, behind: str = "") -> str:
+    """Some of the words, and how many more there are."""
+    more = f" and {len(words) - SHOWN_PAIRS} more" if len(words) > SHOWN_PAIRS else ""
+    return between.join(words[:SHOWN_PAIRS]) + behind + more
+
+
+def name(word: str) -> str:
+    """A label or a variable for a person."""
+    return cut(word, SHOWN_NAME)
+
+
+@dataclass(frozen=True)
 class Clash:
     """Two variables that must be distinct, and what stands for them, without typecodes. `variables`
-    is the one that both of these have, or a pair that no active `$d` has. `missing` has the same of
-    all pairs of the step."""
+    is one that both of these have, or a pair that no active `$d` has. `missing` has all that the
+    step and those behind it lack."""
 
     pair: Pair
     values: tuple[Formula, Formula]
-    variables: tuple[str, ...]
-    missing: tuple[tuple[str, ...], ...] = ()
+    variables: Variables
+    missing: Missing = Missing()
 
     def lines(self, most: int) -> Iterator[Line]:
         """In words."""
-        names = [cut(each, SHOWN_NAME) for each in self.pair]
-        lacking = [cut(each, SHOWN_NAME) for each in self.variables]
+        names = [name(each) for each in self.pair]
+        lacking = [name(each) for each in self.variables]
         yield "its $d has", " and ".join(names)
         for variable, value in zip(names, self.values):
             yield f"in place of {variable}", in_words(value, most)
         yield "no active $d has" if len(lacking) > 1 else "both have", " and ".join(lacking)
-
-    def advice(self) -> str:
-        """What to do about all pairs of the step. A `$d` of one variable twice can't be."""
-        named = [
-            [cut(each, SHOWN_NAME) for each in names] for names in self.missing or (self.variables,)
-        ]
-        pairs = [f"$d {' '.join(sorted(names))} $." for names in named if len(names) > 1]
-        common = [names[0] for names in named if len(names) == 1]
-        said = []
-        if pairs:
-            said.append(f"add `{' '.join(pairs)}` to the theorem, or use other variables")
-        if common:
-            said.append(
-                f"use another variable in place of {' and '.join(common)} on one side: no `$d`"
-                " helps there"
-            )
-        return "; ".join(said)
 
 
 @dataclass(frozen=True)
@@ -110,7 +133,7 @@ class Explanation:
     def lines(self, most: int = SHOWN_FORMULA) -> Iterator[Line]:
         """In words, but for the steps."""
         if self.cited is not None:
-            yield "the step", f"{self.step}, {cut(self.cited, SHOWN_NAME)}"
+            yield "the step", f"{self.step}, {name(self.cited)}"
         if self.entries is not None:
             yield "the stack", self._stack_in_words(self.entries)
         for fault in (self.mismatch, self.clash):
@@ -133,7 +156,7 @@ class Explanation:
 
     def advice(self) -> str | None:
         """What to do; None where nothing better is known than of all faults of this code."""
-        return None if self.clash is None else self.clash.advice()
+        return None if self.clash is None else self.clash.missing.advice()
 
     def clause(self, most: int) -> str:
         """The same in a line; "" where there is nothing to tell."""
@@ -142,7 +165,7 @@ class Explanation:
     def step_lines(self) -> list[str]:
         """The steps before, aligned."""
         wide = max((len(str(each.number)) for each in self.last), default=0)
-        labels = [cut(each.label, SHOWN_NAME) for each in self.last]
+        labels = [name(each.label) for each in self.last]
         width = min(max(map(len, labels), default=0), WIDEST)
         return [
             f"{each.number:>{wide}}  {label:<{width}}  {in_words(each.formula, SHOWN_FORMULA)}"
@@ -157,7 +180,8 @@ class Explanation:
 
     def fields(self) -> list[Value]:
         """The step, what it cites, the label of the hypothesis, the two variables, what stands for
-        each, the variables that are lacking, and the steps before, for a program."""
+        each, the variables that are lacking, the steps before, and all that is lacking, for a
+        program."""
         label = None if self.mismatch is None else self.mismatch.hypothesis.label
         steps = [
             f"{each.number} {each.label} {in_words(each.formula, SHOWN_FORMULA)}"
@@ -167,7 +191,9 @@ class Explanation:
         if self.clash is not None:
             values = map(text_of, self.clash.values)
             clash = [list(self.clash.pair), *values, list(self.clash.variables)]
-        return [self.step, self.cited, label, *clash, steps or None]
+        missing = () if self.clash is None else self.clash.missing.found
+        lacking = [" ".join(each) for each in missing]
+        return [self.step, self.cited, label, *clash, steps or None, lacking or None]
 
 
 def text_of(formula: Formula | None) -> str | None:

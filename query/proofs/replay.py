@@ -26,6 +26,9 @@ COST_OF_STEP = 10
 MARK = -1
 """Stands for a `Z`."""
 WORD = re.compile(rb"\S+")
+LETTERS = re.compile(rb"[A-Z\s]*+")
+OTHERS = re.compile(rb"[?$]")
+"""What isn't of a step in a normal proof."""
 SPREAD = re.compile(rb"(?:[U-Y]\s*)*[A-T]")
 """A number with white space between its letters."""
 
@@ -78,10 +81,11 @@ class Proof:
         """How many steps there are before that place."""
         return len(self.numbers) - self.numbers.count(MARK)
 
-    def labels_of(self, theorem: Rule) -> list[str]:
-        """The labels by their numbers, of the proof of this theorem."""
+    def labels_of(self, theorem: Rule, labels: Sequence[str] | None = None) -> list[str]:
+        """The labels by their numbers, of the proof of this theorem; of those that stand in it
+        other ones, where they are given."""
         given = [each.label for each in theorem.given] if self.is_compressed else []
-        return given + self.labels
+        return [*given, *(self.labels if labels is None else labels)]
 
 
 def proof_before(bare_text: bytes, place: int) -> Proof | None:
@@ -98,6 +102,27 @@ def proof_before(bare_text: bytes, place: int) -> Proof | None:
     found = SPREAD.match(bare_text, place)
     faulty = None if found is None else numbers_in(found[0].split())[0]
     return Proof(True, labels, numbers_in(words[close + 1 :]), faulty)
+
+
+class Rest(NamedTuple):
+    """What is behind a place of a proof: the labels that stand in the whole proof, the numbers of
+    the steps from that place on, and whether these are all."""
+
+    labels: list[str]
+    numbers: list[int]
+    is_whole: bool
+
+
+def rest_behind(bare_text: bytes, place: int, before: Proof) -> Rest:
+    """What is behind a place of a proof of which it is known what is before. ValueError where the
+    proof isn't whole, or too long."""
+    end = bare_text.index(b"$.", place)
+    whole = proof_before(bare_text, end)
+    rest = bare_text[place:end]
+    is_whole = LETTERS.fullmatch(rest) if before.is_compressed else OTHERS.search(rest) is None
+    if whole is None or not is_whole or before.numbers != whole.numbers[: len(before.numbers)]:
+        raise ValueError
+    return Rest(whole.labels, whole.numbers[len(before.numbers) :], True)
 
 
 def normal(words: list[bytes], there: re.Match[bytes] | None) -> Proof:

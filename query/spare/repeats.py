@@ -2,9 +2,11 @@
 
 from __future__ import annotations
 
-from collections.abc import Iterator
-from dataclasses import dataclass
+import json
+from collections.abc import Iterator, Sequence
+from dataclasses import astuple, dataclass
 
+from query.platform import cache
 from query.spare.index import GivenUp
 from query.spare.proofs import Proof, Step
 from query.spare.rules import Rule, Rules
@@ -13,6 +15,8 @@ from query.spare.trees import Binding
 
 HOW = ("same", "weaker", "instance")
 """How a theorem says what an earlier statement says, the nearest first."""
+FORM = 1
+"""Counts the forms in which repeats are kept, and the ways in which they are sought."""
 
 
 @dataclass(frozen=True, slots=True)
@@ -22,6 +26,30 @@ class Repeat:
     theorem: str
     earlier: str
     how: str
+
+
+@dataclass(frozen=True, slots=True)
+class Found:
+    """What was found: the repeats in file order, the theorems of which it takes too long to say
+    what they repeat, and the statements whose formulas aren't read."""
+
+    repeats: Sequence[Repeat]
+    given_up: Sequence[str]
+    unread: Sequence[str]
+
+
+def store(key: str, found: Found) -> None:
+    """Keeps what was found."""
+    cache.store(key, {"found": json.dumps(astuple(found)).encode()})
+
+
+def load(key: str) -> Found | None:
+    """What was found; None where nothing is kept."""
+    parts = cache.load(key)
+    if parts is None:
+        return None
+    repeats, given_up, unread = json.loads(parts["found"])
+    return Found([Repeat(*each) for each in repeats], given_up, unread)
 
 
 class Ways(Search):

@@ -52,6 +52,7 @@ WORDS: dict[str, tuple[str, ...]] = {
     "equivalents": ("DB", "ax-1"),
     "search": ("DB", "( p ->"),
     "needs": ("DB", "a2"),
+    "drop": ("DB", "a2"),
     "move": ("DB", "a2", "--to", "a1i"),
     "graph": ("DB", "a2"),
     "picture": ("DB",),

@@ -66,6 +66,10 @@ class Fault:
     wanted: str | None = None
     clashes: dict[tuple[str, str], "Clash"] = field(default_factory=dict)
     """By the pairs that must be distinct; any may be told."""
+    missing: set[frozenset[str]] = field(default_factory=set)
+    """What is lacking at this step and at those behind it."""
+    unseen: int | None = None
+    """The step behind it that has another fault."""
     entries: int = 0
     steps: list[str] = field(default_factory=list)
 
@@ -158,6 +162,7 @@ class Check:
     def fault(self) -> Fault | None:
         """The first fault."""
         made: list[str] = []
+        first: Fault | None = None
         for count, label in enumerate(self.steps(), 1):
             if label.startswith("@"):
                 self.stack.append(made[int(label[1:]) - 1])
@@ -165,11 +170,19 @@ class Check:
                 self.stack.append(self.hypotheses[label])
             else:
                 fault = self.applied(self.known[label])
-                if fault is not None:
+                if fault is not None and first is None:
                     fault.step, fault.cited, fault.steps = count, label, self.told[-5:]
-                    return fault
+                    first = fault
+                if first is not None and fault is not None:
+                    first.missing |= fault.missing
+                    first.unseen = count
+                if fault is not None and fault.code != "E36":
+                    return first
             made.append(self.stack[-1])
             self.told.append(f"{count} {label} {self.stack[-1]}")
+        if first is not None:
+            first.unseen = None
+            return first
         if len(self.stack) > 1:
             return Fault("E37", entries=len(self.stack), steps=self.told[-5:])
         proved, wanted = self.stack[0], self.frame.formula
@@ -190,16 +203,21 @@ class Check:
             if not name and replaced(says, values) != entry:
                 wanted = replaced(says, values)
                 return Fault("E35", hypothesis=label, proved=entry, wanted=wanted)
-        clashes = {}
+        clashes, missing = {}, set[frozenset[str]]()
         for one, other in (sorted(pair) for pair in rule.apart if pair <= set(values)):
             lacking = self.lacking(values[one], values[other])
             if lacking:
                 clashes[one, other] = Clash(values[one], values[other], lacking)
-        if clashes:
-            return Fault("E36", clashes=clashes)
+                missing |= self.missing(values[one], values[other])
         del self.stack[len(self.stack) - len(given) :]
         self.stack.append(replaced(rule.formula, values))
-        return None
+        return Fault("E36", clashes=clashes, missing=missing) if clashes else None
+
+    def missing(self, one: str, other: str) -> set[frozenset[str]]:
+        """The variables that both have, and the pairs that aren't distinct at the theorem."""
+        names = {name for _, _, name in self.frame.floats}
+        left, right = ({*formula.split()} & names for formula in (one, other))
+        return {frozenset(pair) for pair in product(left, right)} - self.frame.apart
 
     def lacking(self, one: str, other: str) -> list[list[str]]:
         """The variables that both have; else the pairs that aren't distinct at the theorem."""

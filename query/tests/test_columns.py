@@ -24,6 +24,8 @@ SEVERAL: dict[str, list[tuple[str, ...]]] = {
     "history": [("HEAD",), ("HEAD", "ax-1"), ("HEAD", "ax-1", "ax-mp"), ("HEAD..",)],
     "chapters": [(), ("ax-1",), ("ax-1", "ax-mp")],
     "unfinished": [("--open",), ("--open", "todo")],
+    "drop": [("a2",), ("a2", "a1i"), ("a*",)],
+    "why": [("a2", "ax-1"), ("a2", "--longest")],
 }
 
 

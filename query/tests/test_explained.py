@@ -243,7 +243,8 @@ ADVICE = (
     (PARTS, "add `$d x y $. $d x z $.` to the theorem, or use other variables"),
     (
         PARTS.replace("fy fz", "fx fz").replace("w x y z $=", "w x x z $="),
-        "use another variable in place of x on one side: no `$d` helps there",
+        "add `$d x z $.` to the theorem, or use other variables; use another variable in place of x"
+        " on one side: no `$d` helps there",
     ),
 )
 """Databases that are refused for E36, and what is advised."""
@@ -285,6 +286,31 @@ class Told(Explained):
             self.assertIn(f"\n  what to do        {wanted}\n", done.out)
             (row,) = json.loads(self.query("verify", "bad.mm", "--format=json").out)
             self.assertEqual(row["advice"], wanted)
+
+    def test_all_that_is_missing(self) -> None:
+        """Of all steps; of many pairs the first are named, and the others counted."""
+        both = "${ b1 $e |- p $. b2 $e |- q $. both $a |- p $. $}\n"
+        proof = "wp wq dist wp wr dist q2 both".replace("q2 ", "")
+        theorem = f"x $p |- ( p -> q ) $= wp wq wi wp wr wi {proof} $."
+        self.write("bad.mm", f"{self.HEAD}{both}{theorem}\n")
+        (row,) = json.loads(self.query("verify", "bad.mm", "--format=json").out)
+        self.assertEqual((row["step"], row["missing"]), (9, ["p q", "p r"]))
+        self.assertIn("add `$d p q $. $d p r $.` to the theorem", row["advice"])
+        for count, more in ((20, ""), (21, " and 1 more"), (1001, " and 980 more")):
+            names = [f"z{number}" for number in range(count)]
+            text = f"$c a $. $v x y {' '.join(names)} $. fx $f a x $. fy $f a y $.\n"
+            text += "".join(f"f{name} $f a {name} $. " for name in names)
+            text += f"all $a a {' '.join(names)} $. ${{ $d x y $. b $a a x $. $}}\n"
+            text += f"t $p a x $= fx {' '.join(f'f{name}' for name in names)} all b $.\n"
+            text = text.replace("b $a a x $.", "b $a a x y $.").replace(
+                "t $p a x $=", f"t $p a x {' '.join(names)} $="
+            )
+            self.write("bad.mm", text)
+            (row,) = json.loads(self.query("verify", "bad.mm", "--format=json").out)
+            self.assertEqual(len(row["missing"]), min(count, 1000))
+            self.assertIn(f"$d x z19 $.`{more} to the theorem", row["advice"])
+            unseen = f"what the steps from {count + 3} on lack isn't known"
+            self.assertEqual(unseen in row["advice"], count > 1000)
 
     def test_the_gate_says_it_in_a_clause(self) -> None:
         for theorem, wanted in EACH:
@@ -446,6 +472,9 @@ class Outlines(World):
 class Apart(Explained):
     """Against a verifier written apart."""
 
+    several = 0
+    """How many proofs lacked several pairs."""
+
     def check(self, row: Row, fault: replay.Fault, why: str) -> None:
         """What is said is what is so."""
         self.assertEqual(row["code"], fault.code, why)
@@ -460,9 +489,20 @@ class Apart(Explained):
             clash = fault.clashes[one, other]
             self.assertEqual((first, second), clash[:2], why)
             self.assertIn(row["lacking"], clash.lacking, why)
+            self.check_missing(row, fault, why)
         else:
-            empty = [row[name] for name in ("distinct", "first", "second", "lacking")]
-            self.assertEqual(empty, [None] * 4, why)
+            empty = [row[name] for name in ("distinct", "first", "second", "lacking", "missing")]
+            self.assertEqual(empty, [None] * 5, why)
+
+    def check_missing(self, row: Row, fault: replay.Fault, why: str) -> None:
+        """All that is lacking is told once, and from which step on nothing is known."""
+        missing = words_of(row["missing"])
+        self.assertEqual(missing[0].split(), row["lacking"], why)
+        self.assertEqual({frozenset(each.split()) for each in missing}, fault.missing, why)
+        self.assertEqual(len(missing), len(fault.missing), why)
+        unseen = re.findall(r"what the steps from (\d+) on lack isn't known", str(row["advice"]))
+        self.assertEqual(unseen, [] if fault.unseen is None else [str(fault.unseen)], why)
+        self.several += len(missing) > 1
 
     def test_by_chance(self) -> None:
         codes = dict.fromkeys(CODES, 0)
@@ -476,6 +516,7 @@ class Apart(Explained):
                         label = str(row["statement"])
                         self.check(row, faults[label], f"{name}, seed {seed}, {label}")
         self.assertGreater(min(codes[code] for code in CODES if code != "E39"), 10, codes)
+        self.assertGreater(self.several, 4)
 
 
 def told_by_metamath(said: str) -> dict[str, str]:
@@ -490,6 +531,17 @@ def told_by_metamath(said: str) -> dict[str, str]:
     return found
 
 
+def lacking_by_metamath(said: str) -> dict[str, set[frozenset[str]]]:
+    """What all messages of metamath.exe on a theorem say that isn't distinct."""
+    found: dict[str, set[frozenset[str]]] = {}
+    for part in said.split("?Error on line ")[1:]:
+        match = re.search(r', label "(.*)", type "\$p":', part)
+        if match is not None:
+            pairs = LACKING.findall(part)
+            found.setdefault(match[1], set()).update(frozenset(pair) - {""} for pair in pairs)
+    return found
+
+
 NOT_UNIFIED = re.compile(
     r'The hypotheses of statement "(\S+)" at proof step (\d+) cannot be unified'
 )
@@ -499,7 +551,9 @@ NOT_DISTINCT = re.compile(
     r'\s+that\s+variables\s+"(\S+)" and "(\S+)" be disjoint.\s+But "(\S+)" was substituted with'
     r'\s+"(.*?)"\s+and "(\S+)"\s+was substituted with\s+"(.*?)"\.'
 )
-LACKING = re.compile(r'Variables "(\S+)" and "(\S+)" do not|have variable "(\S+)" in common')
+LACKING = re.compile(
+    r'Variables\s+"(\S+)"\s+and\s+"(\S+)"\s+do\s+not|have\s+variable\s+"(\S+)"\s+in\s+common'
+)
 NOT_PROVED = re.compile(r'The result is "(.*?)" but\s+the\s+statement\s+is "(.*?)"\.')
 TOO_FEW = re.compile(r'At proof step (\d+), statement "(\S+)" requires (\d+) hypothes[ei]s but')
 TOO_MANY = re.compile(r"the RPN stack contains (\d+) entries")
@@ -563,17 +617,22 @@ class Metamath(Explained):
         self.assertIn((values, sorted(lacking)), known, told)
 
     def test_by_chance(self) -> None:
-        codes = dict.fromkeys(CODES, 0)
+        codes, several = dict.fromkeys(CODES, 0), 0
         for name, text in databases():
             for seed in range(12 if len(text) < 10_000 else 2):
                 rows = self.rows(damaged(random.Random(f"{name} {seed}"), text, 60))
                 (said,) = self.asked(["verify proof *"])
-                told = told_by_metamath(said)
+                told, lacking = told_by_metamath(said), lacking_by_metamath(said)
                 for row in rows:
+                    if row["code"] == "E36" and lacking.get(str(row["statement"])):
+                        missing = {frozenset(each.split()) for each in words_of(row["missing"])}
+                        self.assertEqual(missing, lacking[str(row["statement"])], row)
+                        several += len(missing) > 1
                     if row["code"] in CODES and str(row["statement"]) in told:
                         is_same = self.check(row, told[str(row["statement"])])
                         codes[str(row["code"])] += is_same
         self.assertGreater(min(codes[code] for code in CODES if code != "E39"), 10, codes)
+        self.assertGreater(several, 4)
 
     def test_numbers_of_all_steps(self) -> None:
         """Of proofs that are valid, all steps, as `show proof` lists them."""

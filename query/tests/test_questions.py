@@ -5,12 +5,13 @@ import os
 import random
 import unittest
 from collections.abc import Iterator
+from fnmatch import fnmatchcase
 from unittest import mock
 
 from query.citations.graph import Graph
 from query.commands.chains import MOST_RESTATED
 from query.tests import shapes
-from query.tests.world import HOSTILE, Invented, World, asked, built_program, invented
+from query.tests.world import HOSTILE, SMALL, Invented, World, asked, built_program, invented
 
 
 def first(rows: list[list[str]]) -> list[str]:
@@ -168,6 +169,40 @@ class Questions(World):
             tell.assert_called_once_with(f"v doesn't rest on ax{end}")
             self.assertLess(above.call_count, MOST_RESTATED + 5)
 
+    def test_why_wants_on(self) -> None:
+        self.write("db.mm", SMALL)
+        for words in ((), ("--all",), ("--unavoidable",)):
+            self.refuses("why", "db.mm", "a2", *words, why="why wants ON")
+        self.assertEqual(self.answers("why", "db.mm", "a2", "--longest"), ["a2", "a1i", "wi"])
+        self.assertEqual(self.answers("why", "db.mm", "ax-1", "--longest"), ["ax-1"])
+
+    def test_cited_few_times(self) -> None:
+        """Beside the citations of each theorem; and labels by patterns."""
+        for database, path, _ in self.databases():
+            counts = {
+                label: sum(label in cited for cited in database.cites.values())
+                for label in database.theorems()
+            }
+            for most in (1, 2):
+                wanted = [[str(count), label] for label, count in counts.items() if count <= most]
+                self.assertEqual(asked("uncited", path, "--at-most", str(most)), wanted)
+            for pattern in ("*1", "l?", "*"):
+                if not any(fnmatchcase(label, pattern) for label in database.labels()):
+                    continue
+                found = asked("cited-by", path, "--", pattern)
+                pairs = [
+                    [theorem, label]
+                    for theorem, cited in database.cites.items()
+                    for label in cited
+                    if fnmatchcase(label, pattern)
+                ]
+                self.assertEqual(sorted(found), sorted(pairs))
+        self.write("db.mm", SMALL)
+        self.refuses("cited-by", "db.mm", "*OLD", why="db.mm: has no label like '*OLD'")
+        self.assertEqual(
+            self.answers("cited-by", "db.mm", "ax-m?", "--format=csv")[1:], ["a1i,ax-mp"]
+        )
+
     def test_why(self) -> None:
         tried = 0
         for database, path, chance in self.databases():
@@ -197,6 +232,12 @@ class Questions(World):
                     tried += len(chain) > 2
                 else:
                     self.assertEqual(chain, [])
+                ends = [each for each in database.labels() if not database.cites.get(each)]
+                bare = [] if label not in ends else [[label]]
+                downs = bare + [each for end in ends for each in all_chains(database, label, end)]
+                longest = first(asked("why", path, "--longest", "--", label))
+                self.assertIn(longest, downs)
+                self.assertEqual(len(longest), max(map(len, downs)))
                 pairs = {pair for each in chains for pair in itertools.pairwise(each)}
                 self.assertEqual({tuple(edge) for edge in edges}, pairs)
                 self.assertEqual(len(edges), len(pairs))

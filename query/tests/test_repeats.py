@@ -1,8 +1,14 @@
 """What `repeats` says, against trying everything in databases made by chance."""
 
 import itertools
+import os
+from unittest import mock
 
+from query.answers.output import Output
 from query.arguments.context import Context
+from query.arguments.filters import filters_of
+from query.cli import parser_of
+from query.commands import command
 from query.commands.repeats import candidates
 from query.reports.choice import Options
 from query.spare.conventions import conventions_of
@@ -63,6 +69,53 @@ class Repeats(World):
             self.assertEqual(self.rows("db.mm", "--how", how), told)
         done = self.query("repeats", "db.mm", "--how=weaker", "--before=t3")
         self.assertIn("no theorem says what an earlier statement says in the way", done.err)
+
+    def test_other_mathboxes(self) -> None:
+        """What repeats a statement of another mathbox alone is listed where that is asked for."""
+        text = TEXT[: TEXT.index("ay $a")] + "k $a |- ( p -> ( q -> p ) ) $.\n"
+        text += "${ m.1 $e |- p $. m.2 $e |- ( p -> q ) $. m $a |- q $. $}\n"
+        line, proof = "#*" * 10, "wq wq wi wp wq wq wi wi wq ax wq wq wi wp k m"
+        for name, label in (("A", "u"), ("B", "v")):
+            text += f"$(\n{line}\nMathbox for {name}\n{line}\n$)\n"
+            text += f"{label} $p |- ( p -> ( q -> q ) ) $= {proof} $.\n"
+        self.write("db.mm", text)
+        self.assertEqual(self.rows("db.mm"), [])
+        found = [["v", "u", "same", "", ""]]
+        self.assertEqual(self.rows("db.mm", "--other-mathboxes"), found)
+        self.assertEqual(self.rows("db.mm", "--other-mathboxes"), found, "from what is kept")
+        self.assertEqual(self.rows("db.mm"), [])
+
+    def test_what_is_kept(self) -> None:
+        """With what is kept the answers are the same, and nothing is sought."""
+        self.write("db.mm", TEXT)
+        asked: list[list[str]] = [
+            [],
+            ["--kept"],
+            ["--how=same"],
+            ["--like=t*"],
+            ["--like=x"],
+            ["--before=t4"],
+        ]
+        before = [self.query("repeats", "db.mm", *words, "--no-cache") for words in asked]
+        filtered = self.query("repeats", "db.mm", "--like=t*")
+        kept = self.cache / "mmquery"
+        count = len([*kept.iterdir()])
+        self.assertEqual(filtered, before[3])
+        self.assertEqual(self.query("repeats", "db.mm"), before[0])
+        self.assertEqual(len([*kept.iterdir()]), count + 1, "what was found is kept")
+        for words, wanted in zip(asked, before):
+            self.assertEqual(self.query("repeats", "db.mm", *words), wanted, words)
+        self.assertEqual(len([*kept.iterdir()]), count + 2, "and that of --kept apart from it")
+        path = str(self.folder / "db.mm")
+        surroundings = self.surroundings()
+        with (
+            mock.patch.dict(os.environ, surroundings),
+            mock.patch.object(Finder, "repeats", side_effect=AssertionError),
+        ):
+            arguments = parser_of(command("repeats")).read([path, "--like=t4"])
+            context = Context(Output("tsv"), True, filters_of(arguments))
+            command("repeats").run(context, arguments)
+        self.assertEqual(b"".join(context.out.taken()).count(b"\n"), 2)
 
     def test_what_each_rests_on(self) -> None:
         text = TEXT[: TEXT.index("t1 $p")]

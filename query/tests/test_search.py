@@ -8,8 +8,11 @@ import unittest
 from collections.abc import Iterator, Mapping, Sequence
 from types import MappingProxyType
 
+from query.formulas.bracketed import MOST_AROUND, MOST_TRIED, bracketed
+from query.formulas.search import pattern_of
+from query.formulas.syntax import syntax_of
 from query.tests.test_equivalents import BASE, NAMES
-from query.tests.world import DATABASES, SMALL, World
+from query.tests.world import DATABASES, SMALL, World, database_text
 from tests.shared import metamath
 
 WFFS = ("ph", "ps")
@@ -226,6 +229,56 @@ class Searched(World):
             self.assertEqual((done.status, done.out), (0, ""), pattern)
             self.assertEqual(done.err, f"mmquery: db.mm: no formula has that{said}\n", pattern)
         self.assertEqual(self.found("--like=b*", "db.mm", "Foo -> Q x"), [("b2", None)])
+
+    def test_brackets_that_are_left_out(self) -> None:
+        """Where nothing has a pattern, it is said how many have it with more brackets."""
+        lines = "b1 $a |- ( Foo -> ( Q x -> Foo ) ) $. b2 $a |- A. x ( Foo -> Q x ) $.\n"
+        lines += "b3 $a |- ( ( Foo -> Q x ) -> ( ( Q x -> Q y ) -> R x y ) ) $.\n"
+        self.write("db.mm", BASE + lines)
+        for pattern, said in (
+            ("Foo -> Q x -> Foo", "; 1 formula has 'Foo -> ( Q x -> Foo )'"),
+            ("|- A. x Foo -> Q y", "; 1 formula has '|- A. x ( Foo -> Q y )'"),
+            ("( Foo -> Q x ) -> Q x -> Q y -> ph",
+             "; 1 formula has '( Foo -> Q x ) -> ( ( Q x -> Q y ) -> ph )'"),
+            ("Foo -> Q x -> R x y", ""),
+            ("( Foo -> Q x ) -> Q x", ""),
+            ('"Foo -> Q x -> Foo"', ""),
+        ):  # fmt: skip
+            done = self.query("search", "--like=b*", "--", "db.mm", pattern)
+            self.assertEqual((done.status, done.out), (0, ""), pattern)
+            self.assertEqual(done.err, f"mmquery: db.mm: no formula has that{said}\n", pattern)
+            if said:
+                self.assertEqual(len(self.found("--like=b*", "db.mm", said.split("'")[1])), 1)
+
+    def test_brackets_by_chance(self) -> None:
+        """Whatever pair of brackets is left out of a formula, it is among what is tried; each way
+        has the same symbols but for brackets, and all of them are closed."""
+        text = database_text(BASE.encode())
+        grammar = syntax_of(text.assertions)
+        kinds = pattern_of(text, "db.mm", " ".join([*WFFS, *NAMES])).kinds
+        chance, left_out = random.Random(7), 0
+        for _ in range(60):
+            words = formula(chance, chance.randint(1, 2)).split()
+            pairs = [place for place, word in enumerate(words) if word == "("]
+            if not pairs:
+                continue
+            start = chance.choice(pairs)
+            end = end_of(words, start)
+            assert end is not None
+            typed = words[:start] + words[start + 1 : end - 1] + words[end:]
+            ways_found = [*bracketed(grammar, typed, kinds)]
+            plain = [word for word in words if word not in "()"]
+            for way in ways_found:
+                self.assertEqual([word for word in way if word not in "()"], plain)
+                self.assertEqual(way.count("("), way.count(")"))
+                self.assertGreater(way.count("("), typed.count("("))
+            if len(ways_found) < MOST_TRIED and end - start - 2 <= MOST_AROUND:
+                self.assertIn(words, ways_found, typed)
+                left_out += 1
+        self.assertGreater(left_out, 20)
+        self.assertEqual([*bracketed(grammar, ["ph"] * 41, kinds)], [])
+        self.assertEqual([*bracketed(grammar, ["("] * 40, kinds)], [])
+        self.assertLessEqual(len([*bracketed(grammar, "ph -> ".split() * 20, kinds)]), MOST_TRIED)
 
     def test_a_label_is_no_symbol(self) -> None:
         self.write("db.mm", BASE + "b1 $a |- Foo $.\n")

@@ -6,7 +6,7 @@ import shutil
 import subprocess
 import unittest
 
-from query.tests.world import DATABASES, SMALL, World, database_text, invented
+from query.tests.world import DATABASES, SMALL, World, built_program, database_text, invented
 from query.texts.assertions import Assertion
 
 PARTS = """$c wff |- ( -> ) $.
@@ -111,6 +111,65 @@ class Structure(World):
         )
         self.refuses("chapters", "--open", "db.mm", "--any", why="--any wants an AXIOM")
 
+    def test_between(self) -> None:
+        self.assertEqual(
+            self.rows("chapters", "db.mm", "--between", "chapter"),
+            [["0.3", "0.2", "1", "four", "Mathbox for Bo", "Mathbox for Ann Other"]],
+        )
+        self.assertEqual(self.rows("chapters", "db.mm", "--between", "section"), [])
+        two = PARTS.replace("=-=-=-", "#*#*#*")
+        self.write("two.mm", two)
+        rows = self.rows("chapters", "two.mm", "--between", "chapter")
+        self.assertEqual(
+            [row[:4] for row in rows], [["0.2", "0.1", "1", "two"], ["0.4", "0.3", "1", "four"]]
+        )
+        for header in ("0.1", "first", "0.2"):
+            self.assertEqual(
+                self.rows("chapters", "two.mm", "--between", "chapter", "--of", header), rows[:1]
+            )
+        for words, why in (
+            (
+                ("--between", "chapter", "ax-1"),
+                "--between is about citations, so it takes no AXIOM",
+            ),
+            (("--of", "0.1"), "--of wants --between LEVEL"),
+            (("--between", "chapter", "--of", "0.1.1"), "the header 0.1.1 is a section"),
+            (("--between", "chapter", "--of", "0.9"), "has no header '0.9'"),
+            (("--between", "volume"), "invalid choice: 'volume'"),
+        ):
+            self.refuses("chapters", "--open", "db.mm", *words, why=why)
+
+    def test_between_by_chance(self) -> None:
+        """Beside the headers of lines, in databases in which each assertion is a line."""
+        found = 0
+        for seed in range(5):
+            chance = random.Random(seed)
+            database = invented(chance, 12)
+            lines, header, of = [], "", {}
+            for number, line in enumerate(database.text.splitlines()):
+                if chance.random() < 0.25:
+                    header = f"H{number}"
+                    lines.append(f"$(\n#*#*#*\n{header}\n#*#*#*\n$)")
+                if chance.random() < 0.1:
+                    header = ""
+                    lines.append("$(\n####\nPart\n####\n$)")
+                lines.append(line)
+                own = re.findall(r"(\S+) \$[ap]", line)
+                of.update(dict.fromkeys(own, header))
+            self.write("chance.mm", "\n".join(lines) + "\n")
+            wanted: dict[tuple[str, str], list[str]] = {}
+            for theorem, cited in database.cites.items():
+                for other in {of[each] for each in cited} - {"", of[theorem]}:
+                    if of[theorem]:
+                        wanted.setdefault((of[theorem], other), []).append(theorem)
+            rows = self.rows("chapters", "chance.mm", "--between", "chapter")
+            self.assertEqual(
+                sorted((row[4], row[5], row[2], row[3]) for row in rows),
+                sorted((*both, str(len(each)), each[0]) for both, each in wanted.items()),
+            )
+            found += len(rows)
+        self.assertGreater(found, 10)
+
     def test_order(self) -> None:
         self.assertEqual(
             self.rows("order", "db.mm"),
@@ -174,6 +233,49 @@ class Structure(World):
         self.assertEqual(self.rows("mathboxes", "db.mm"), [["four", "Bo", "three", "Ann Other"]])
         self.write("small.mm", SMALL)
         self.assertEqual(self.answers("mathboxes", "small.mm"), [])
+
+    def test_what_is_ready(self) -> None:
+        """A symbol that a mathbox declares keeps a theorem there, whatever its proof cites."""
+        added = "six2 $p |- ( q -> ( p -> q ) ) $= wq wp one $.\n"
+        added += "$c # $. whash $a wff # p $. ${ h $e |- # p $. seven $p |- # p $= h $. $}\n"
+        added += "${ g $e |- p $. eight $p |- p $= g $. $}\n"
+        self.write("ready.mm", PARTS + added)
+        self.assertEqual(
+            self.rows("mathboxes", "ready.mm", "--ready"),
+            [["six2", "Bo", "0", "one", "0.1"], ["eight", "Bo", "0", "", ""]],
+        )
+        self.assertEqual(
+            self.rows("mathboxes", "ready.mm", "--ready", "--mathbox", "Ann Other"), []
+        )
+        self.write("small.mm", SMALL)
+        self.assertEqual(self.answers("mathboxes", "small.mm", "--ready"), [])
+
+    def test_what_is_ready_by_chance(self) -> None:
+        """What is ready is what is valid behind the main part."""
+        ready = 0
+        for seed in range(5):
+            chance = random.Random(seed)
+            database = invented(chance, 12)
+            lines = database.text.splitlines()
+            place = chance.randint(7, 11)
+            header = "$(\n#*#*#*\nMathbox for A\n#*#*#*\n$)"
+            self.write("chance.mm", "\n".join([*lines[:place], header, *lines[place:]]) + "\n")
+            rows = self.rows("mathboxes", "chance.mm", "--ready")
+            boxed = [line for line in lines[place:] if " $p " in line]
+            wanted = []
+            for line in boxed:
+                self.write("main.mm", "\n".join([*lines[:place], line]) + "\n")
+                if self.ran(built_program(), "--report=counts", "main.mm").status == 0:
+                    wanted.append(line.split(" $p ")[0].split()[-1])
+            self.assertEqual([row[0] for row in rows], wanted)
+            for label, _, count, after, _ in rows:
+                users = [each for each, cited in database.cites.items() if label in cited]
+                self.assertEqual(count, str(len(users)))
+                cited = database.cites[label]
+                self.assertEqual(after, cited[-1] if cited else "")
+            ready += len(wanted)
+            self.assertLess(len(wanted), len(boxed))
+        self.assertGreater(ready, 4)
 
     def test_set_proof(self) -> None:
         self.write("small.mm", SMALL)

@@ -66,8 +66,8 @@ fn ones_by_lanes_are_the_plain_sum(rt: HostRuntime) {
 /// How many workers check the proofs.
 const WORKERS: u32 = 1;
 
-/// The matrix of a text without a fault, with all axioms as columns. Fails if there is no memory for
-/// the text, too.
+/// The matrix of a text without a fault, with all axioms as columns. Fails if there is no memory
+/// for the text, too.
 fn matrix_of<R: Threads + Wait + Sync>(
     rt: &R,
     alloc: Global,

@@ -56,8 +56,8 @@ fn has_disjoint_variables<A: Allocator>(
     }
 }
 
-/// Reads statements with a growth refused. Asserts that the tokens are given back and the text is as
-/// it was. Returns whether there was such a growth.
+/// Reads statements with a growth refused. Asserts that the tokens are given back and the text is
+/// as it was. Returns whether there was such a growth.
 fn are_tokens_given_back<'h, R: Abort + Threads + Sync>(
     rt: &R,
     alloc: Global,

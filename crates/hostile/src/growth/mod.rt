@@ -4,8 +4,8 @@
 //!
 //! A loop refuses growth 1 of a call, then growth 2, and so on, up to the first call that meets no
 //! refusal. The number with which it compares that growth is how many have to be refused at least.
-//! A function whose name ends in `in_turn` is such a loop over the call that its name begins with, or
-//! over each call of a table.
+//! A function whose name ends in `in_turn` is such a loop over the call that its name begins with,
+//! or over each call of a table.
 
 mod alone;
 mod comparisons;

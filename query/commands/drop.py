@@ -1,0 +1,79 @@
+"""`drop`: whether theorems may be dropped, and what is in the way."""
+
+import argparse
+from collections.abc import Iterable
+
+from query.answers.errors import NoAnswer, shown
+from query.answers.output import Value
+from query.arguments.context import Context
+from query.arguments.label_files import labels_like
+from query.arguments.options import (
+    Parser,
+    add_choice_of_citations,
+    add_database,
+    options_of,
+)
+from query.commands import Command
+from query.texts.discouraged import is_discouraged, is_proof_discouraged
+from query.texts.named import names_in
+from query.texts.text import Text
+
+PAGE = """
+Tells whether the LABELs, which are theorems, may be dropped all together: status 0, or 1 where one
+may not. Of what is dropped together nothing stands in the way of the others.
+
+label    the label of the theorem
+drop     whether it may be dropped: no theorem cites it, and no $j comment names it
+cited    the theorems that cite it, whose proofs would have to be found anew
+marks    the lines of the $j comments that name it
+remarks  the lines on which comments say ~ LABEL, which have to be changed then
+kept     what its own comment discourages, usage or proof: it may be there on purpose
+
+A LABEL may be a pattern, in which * is anything and ? any character: then it is each theorem like
+that. `uncited` lists what nobody cites, and `falls` all theorems that rest on a label.
+
+  $ mmquery drop set.mm idALT
+  $ mmquery drop set.mm zorn '*OLD'
+"""
+
+COLUMNS = ("label", "drop", "cited", "marks", "remarks", "kept")
+
+
+def configure(parser: Parser) -> None:
+    """Adds the words and options."""
+    add_database(parser)
+    parser.add_argument("labels", metavar="LABEL", nargs="+")
+    add_choice_of_citations(parser)
+
+
+def run(context: Context, arguments: argparse.Namespace) -> int:
+    """Answers."""
+    database = context.database(arguments.database, options_of(arguments))
+    graph, text = database.graph(), database.text
+    theorems = (one.label for one in text.assertions if one.kind == "p")
+    labels = labels_like(arguments.labels, [*theorems], database.name)
+    for label in labels:
+        if database.assertion(label).kind == "a":
+            raise NoAnswer(
+                f"{database.name}: '{shown(label)}' is an axiom, and drop is of theorems"
+            )
+    named = names_in(text.data, labels)
+    citing = graph.citing([graph.node(label) for label in labels])
+    rows: list[list[Value]] = []
+    for label, users in zip(labels, citing.values(), strict=True):
+        one = text.by_label[label]
+        cited = [graph.labels[user] for user in users if user not in citing]
+        marks = lines(text, named[label].marks)
+        kept = ["usage"] * is_discouraged(text, one) + ["proof"] * is_proof_discouraged(text, one)
+        remarks = lines(text, named[label].remarks)
+        rows.append([label, not cited and not marks, cited, marks, remarks, kept])
+    context.out.table(COLUMNS, rows)
+    return 0 if all(row[1] for row in rows) else 1
+
+
+def lines(text: Text, places: Iterable[int]) -> list[str]:
+    """The lines of places, each once."""
+    return list(dict.fromkeys(str(text.line(place)) for place in places))
+
+
+COMMANDS = [Command("drop", PAGE, configure, run)]
