@@ -16,7 +16,8 @@ from pathlib import Path
 from types import TracebackType
 
 from query.answers.errors import NoAnswer, shown
-from query.git.repository import NOWHERE, Repository, call, said, short
+from query.git.reader import WORDS, Reader
+from query.git.repository import NOWHERE, Repository, begin, call, memory_for, said, short
 from query.git.trees import (
     FOLDER,
     LINK,
@@ -28,7 +29,7 @@ from query.git.trees import (
     told,
     twins,
 )
-from query.platform import temporary
+from query.platform import system, temporary
 from query.platform.limits import MOST_DATABASE_BYTES
 
 ATTRIBUTES = "* merge -text -ident !filter !eol !working-tree-encoding\n"
@@ -48,6 +49,16 @@ NOBODY = {
 }
 
 
+def apart(own: Path) -> dict[str, str]:
+    """The variables by which git reads no file of settings but that of a repository of ours."""
+    return {
+        "HOME": str(own),
+        "XDG_CONFIG_HOME": str(own),
+        "GIT_CONFIG_GLOBAL": NOWHERE,
+        "GIT_CONFIG_NOSYSTEM": "1",
+    }
+
+
 def call_apart(
     own: Path,
     *words: str,
@@ -56,17 +67,10 @@ def call_apart(
     more: Mapping[str, str] | None = None,
     size: int = 0,
 ) -> subprocess.CompletedProcess[bytes]:
-    """Runs git on a repository that we made, in another folder where that is given. No file of
-    settings but its own is read."""
-    apart = {
-        "HOME": str(own),
-        "XDG_CONFIG_HOME": str(own),
-        "GIT_CONFIG_GLOBAL": NOWHERE,
-        "GIT_CONFIG_NOSYSTEM": "1",
-        **(more or {}),
-    }
+    """Runs git on a repository that we made, in another folder where that is given."""
+    variables = {**apart(own), **(more or {})}
     where = folder or own
-    return call(f"--git-dir={own}", *words, folder=where, given=given, more=apart, size=size)
+    return call(f"--git-dir={own}", *words, folder=where, given=given, more=variables, size=size)
 
 
 def make_empty(folder: Path) -> None:
@@ -204,12 +208,26 @@ class Objects:
             raise NoAnswer(f"not judged: {shown(path)}: {short(name)} is a {what}, and no {kind}")
         return int(sizes[0])
 
-    def read(self, kind: str, name: str, most: int, path: str) -> bytes:
+    def read(
+        self, kind: str, name: str, most: int, path: str, reader: Reader | None = None
+    ) -> bytes:
         """Its bytes. NoAnswer where there are more than `most`: an object of a few bytes can be
         made to unpack to gigabytes."""
         size = self.size(kind, name, path)
         see_length(path, size, most)
+        if reader is not None and system.can_wait():
+            return reader.read(kind, name, size)
         return self.must("cat-file", kind, name, size=size)
+
+    def reader(self) -> Reader:
+        """What reads many of the objects."""
+        return Reader(self.begin_reading)
+
+    def begin_reading(self, size: int) -> subprocess.Popen[bytes]:
+        """Begins a call that reads objects of at most so many bytes."""
+        own, memory = self.folder, memory_for(size)
+        words = (f"--git-dir={own}", *WORDS)
+        return begin(*words, folder=own, memory=memory, more=apart(own))
 
     def listing(self, tree: str, path: str) -> dict[bytes, Entry]:
         """What stands in a folder on the way to a path, given by the full id of its tree. NoAnswer
@@ -275,9 +293,15 @@ class Objects:
         entry = self.entry(tree, path)
         return None if entry is None else self.blob(entry.name, path, most)
 
-    def blob(self, name: str, path: str, most: int = MOST_DATABASE_BYTES) -> bytes:
+    def blob(
+        self,
+        name: str,
+        path: str,
+        most: int = MOST_DATABASE_BYTES,
+        reader: Reader | None = None,
+    ) -> bytes:
         """The bytes of a file, given by its full id. NoAnswer where there are too many."""
-        data = self.read("blob", name, most, path)
+        data = self.read("blob", name, most, path, reader)
         if data.startswith(POINTER):
             raise NoAnswer(f"{shown(path)}: a pointer of Git LFS, and not what it stands for")
         return data

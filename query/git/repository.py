@@ -206,22 +206,9 @@ def call(
     """Runs git in a folder. No variable of git's reaches it but ours. `size` is how long the
     database is, where git reads or merges it. NoAnswer where git isn't there, or needs more time or
     memory than it gets."""
-    settings = [word for each in SETTINGS for word in ("-c", each)]
-    line = [wanted("git", "git isn't installed"), *settings, *words]
-    memory = FREE_BYTES + BYTES_FOR_BYTE * size
+    memory = memory_for(size)
     with signals.held():
-        try:
-            process = subprocess.Popen(
-                line,
-                cwd=folder,
-                stdin=subprocess.PIPE,
-                stdout=subprocess.PIPE,
-                stderr=subprocess.PIPE,
-                env={**surroundings(), **SURROUNDINGS, **(more or {})},
-                preexec_fn=system.limiting_own(memory),
-            )
-        except OSError as error:
-            raise NoAnswer(f"git can't be run: {error.strerror}") from None
+        process = begin(*words, folder=folder, memory=memory, more=more)
         number = signals.at_stop(partial(end, process))
     with process:
         try:
@@ -234,6 +221,30 @@ def call(
     if done.returncode and OUT_OF_MEMORY.search(done.stderr):
         raise too_much(words, f"{memory // MEGABYTE} MB of memory")
     return done
+
+
+def memory_for(size: int) -> int:
+    """How much memory a call gets that reads a database of so many bytes."""
+    return FREE_BYTES + BYTES_FOR_BYTE * size
+
+
+def begin(
+    *words: str, folder: Path, memory: int, more: Mapping[str, str] | None = None
+) -> subprocess.Popen[bytes]:
+    """Begins a call in a folder, with so much memory. NoAnswer where git isn't there."""
+    settings = [word for each in SETTINGS for word in ("-c", each)]
+    try:
+        return subprocess.Popen(
+            [wanted("git", "git isn't installed"), *settings, *words],
+            cwd=folder,
+            stdin=subprocess.PIPE,
+            stdout=subprocess.PIPE,
+            stderr=subprocess.PIPE,
+            env={**surroundings(), **SURROUNDINGS, **(more or {})},
+            preexec_fn=system.limiting_own(memory),
+        )
+    except OSError as error:
+        raise NoAnswer(f"git can't be run: {error.strerror}") from None
 
 
 def surroundings() -> dict[str, str]:

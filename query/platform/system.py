@@ -186,6 +186,11 @@ def can_fork() -> bool:
     return hasattr(os, "fork")
 
 
+def can_wait() -> bool:
+    """Whether a process can wait for a pipe for some time."""
+    return hasattr(select, "poll")
+
+
 def fork() -> int:
     """Makes a copy of this process. Returns its number, and 0 in the copy."""
     return os.fork()
@@ -218,6 +223,13 @@ def first_of(*pipes: int, waits: bool = True) -> list[int]:
     for pipe in pipes:
         poll.register(pipe, select.POLLIN)
     return [pipe for pipe, _ in poll.poll(None if waits else 0)]
+
+
+def has_more(pipe: int, seconds: int) -> bool:
+    """Whether a pipe has something to read, or has ended, within so many seconds."""
+    poll = select.poll()
+    poll.register(pipe, select.POLLIN)
+    return bool(poll.poll(1000 * seconds))
 
 
 def let_in(signals: Sequence[int]) -> None:

@@ -107,7 +107,8 @@ class Dependence:
 
     def sizes(self) -> list[int]:
         """For each column how many theorems rest on its axiom."""
-        return [self.marked(column).count(1) for column in range(len(self.axioms))]
+        sizes = self.marks.sizes()
+        return [sizes[number] for number in self.chosen]
 
     def see_theorem(self, label: str) -> None:
         """NoAnswer where there is no theorem of this label."""

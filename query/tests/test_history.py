@@ -6,6 +6,9 @@ import os
 import random
 import unittest
 
+from query.answers.errors import NoAnswer
+from query.git.objects import Objects
+from query.git.repository import repository_of
 from query.tests.repositories import ADDED, BASE, FREED, Repositories, changed
 from query.tests.world import MMQUERY, invented, program
 
@@ -458,6 +461,38 @@ class Hostile(History):
         (row,) = self.rows("new.mm", commit, "ax-ac2")
         self.assertEqual((row["rev"], row["rest"]), (commit, 2))
         self.assertIsNone(row["date"])
+
+
+class Reading(Repositories):
+    """Objects that one call of git reads one after another."""
+
+    def test_many(self) -> None:
+        """Each is what a call of its own reads; a longer one begins the call anew."""
+        texts = ["", "x", BASE, BASE + ADDED, "\n" * 70_000, BASE]
+        names = [self.git("hash-object", "-w", self.write("some", text)) for text in texts]
+        with Objects(repository_of(self.folder)) as objects, objects.reader() as reader:
+            for name, text in [*zip(names, texts), *zip(names[::-1], texts[::-1])]:
+                self.assertEqual(objects.blob(name, "some", reader=reader), text.encode())
+            with self.assertRaisesRegex(NoAnswer, "has 1 bytes, and 0 are taken"):
+                objects.blob(names[1], "some", 0, reader)
+            with self.assertRaisesRegex(NoAnswer, "lacks the object"):
+                objects.blob("0" * 40, "some", reader=reader)
+            self.assertEqual(objects.blob(names[2], "some", reader=reader), BASE.encode())
+
+    def test_a_call_that_ends(self) -> None:
+        """Where git ends, or tells another object, there is no answer, and the next call begins."""
+        name = self.git("hash-object", "-w", self.write("some", BASE))
+        with Objects(repository_of(self.folder)) as objects, objects.reader() as reader:
+            for size in (len(BASE) - 1, len(BASE) + 1):
+                with self.assertRaisesRegex(NoAnswer, "isn't read as it was told before"):
+                    reader.read("blob", name, size)
+            with self.assertRaisesRegex(NoAnswer, "isn't read as it was told before"):
+                reader.read("tree", name, len(BASE))
+            reader.started(len(BASE)).kill()
+            reader.started(len(BASE)).wait()
+            with self.assertRaisesRegex(NoAnswer, "git ended before"):
+                reader.read("blob", name, len(BASE))
+            self.assertEqual(reader.read("blob", name, len(BASE)), BASE.encode())
 
 
 if __name__ == "__main__":

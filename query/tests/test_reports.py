@@ -3,8 +3,10 @@
 import random
 import re
 import unittest
+from unittest import mock
 
 from query.answers.errors import NoAnswer
+from query.citations.marks import marks_of_rows, width_of
 from query.reports.content import ReportContent
 from query.reports.handed_in import checked
 from query.tests.world import SMALL, World, invented
@@ -178,6 +180,22 @@ def meaning(found: ReportContent) -> object:
     used = [column for column, size in enumerate(found.marks.sizes()) if size]
     users = {found.columns[column]: found.marks.users(column) for column in used}
     return found.theorems, users
+
+
+class Sizes(unittest.TestCase):
+    """How many rows are marked in each column."""
+
+    def test_by_chance(self) -> None:
+        """As many as the column has, whatever rows are counted at once."""
+        chance = random.Random(3)
+        for rows, columns in ((0, 5), (3, 0), (1, 1), (7, 17), (5, 8), (9, 23), (4097, 9)):
+            spare = 8 * width_of(columns) - columns
+            bits = [chance.getrandbits(columns) << spare for _ in range(rows)]
+            marked = marks_of_rows(bits, columns)
+            wanted = [marked.column(number).count(1) for number in range(columns)]
+            for at_once in (1, 2, 4096):
+                with mock.patch("query.citations.marks.BLOCK", at_once):
+                    self.assertEqual(marked.sizes(), wanted, (rows, columns, at_once))
 
 
 if __name__ == "__main__":
