@@ -18,7 +18,7 @@ _mmdepend() {
         --against) ;;
         --workers) words='1 2 4 8 16 32 64' ;;
         --pieces) words='1 2 4 8 16 32 64' ;;
-        *) if [[ $word == -* ]]; then words='--only --report --form --essential --open --against --workers --pieces -h --help -V --version'; fi ;;
+        *) if [[ $word == -* ]]; then words='--only --report --form --essential --open --against --and-report --workers --pieces -h --help -V --version'; fi ;;
         # end options
     esac
     if [ -n "$list" ]; then

@@ -46,7 +46,8 @@ def synopsis(options: dict[Option, Words]) -> Iterator[str]:
     """The options of `mmdepend` that a call may have."""
     for option in options:
         if len(option.words) == 1:  # help and version stand alone
-            yield f".RB [ \\-\\-{option.name}" + ("" if option.value else " ]")
+            name = option.name.replace("-", "\\-")
+            yield f".RB [ \\-\\-{name}" + ("" if option.value else " ]")
             if option.value:
                 yield f".IR {option.value} ]"
 

@@ -74,8 +74,15 @@ OPTIONS = {
         "only *{value}* has, and `gained` and `lost`, for each theorem the axioms on which it "
         "rests in *FILE* alone or in *{value}* alone. If a database has a fault, the line begins "
         "with `old` or `new`. One of both files can be `-`. The options `--report` and `--form` "
-        "change nothing then.",
+        "change nothing then, unless the report is asked for as well, by `--and-report`.",
         kind="database",
+    ),
+    "and-report": Words(
+        "write the report on the database behind that",
+        "With `--against`: where neither database has a fault, write the report on *FILE* behind "
+        "the comparison, [as a run on *FILE* alone writes it](#two-databases).",
+        more="Both parts have a first and a last line of their own. The options `--report` and "
+        "`--form` say what the report has. Without `--against` it is an invalid command line.",
     ),
     "workers": Words(
         "check the proofs by {value} threads",

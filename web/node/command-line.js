@@ -8,7 +8,7 @@ import { visible } from "../packer/visible.js";
 
 /**
  * What the words ask for: a run, or a text for standard output (`help`) or standard error (`misread`).
- * @typedef {{ ends: "run", request: Request, against: string | null, file: string | null }
+ * @typedef {{ ends: "run", request: Request, against: string | null, andReport: boolean, file: string | null }
  *     | { ends: "help", text: string } | { ends: "misread", text: string }} Line
  */
 
@@ -24,6 +24,7 @@ const OPTIONS = /** @type {const} */ ({
     essential: { type: "boolean" },
     open: { type: "boolean" },
     against: { type: "string" },
+    "and-report": { type: "boolean" },
     help: { type: "boolean", short: "h" },
     version: { type: "boolean", short: "V" },
 });
@@ -66,6 +67,7 @@ statements, or all, which is the first three [default: all]
       --essential      Count what the logical part of a proof cites, and not what builds its formulas
       --open           Count a theorem whose proof is ? as an axiom
       --against <OLD>  Write what FILE has and OLD hasn't, and the other way round, in place of the report
+      --and-report     With --against, write the report on FILE behind that, as --report asks for it
   -h, --help           Print help
   -V, --version        Print version
 
@@ -183,7 +185,7 @@ class Found {
             essential: values.has("essential"),
             open: values.has("open"),
         };
-        return { ends: "run", request, against: values.get("against") ?? null, file };
+        return { ends: "run", request, against: values.get("against") ?? null, andReport: values.has("and-report"), file };
     }
 }
 

@@ -3,7 +3,7 @@
 import { isMainThread } from "node:worker_threads";
 import { inflateRawSync } from "node:zlib";
 import { readWords } from "./command-line.js";
-import { against, compile, report, version } from "../library.js";
+import { against, compile, report as reportOn, version } from "../library.js";
 import { mostMemory } from "../limits.js";
 import { packWhenAsked } from "./packing-threads.js";
 import { encoded } from "../packer/bytes.js";
@@ -47,22 +47,39 @@ function textOf(pieces) {
  */
 function reported(module, { request, file }) {
     const { size, fill } = textOf(piecesOf(file));
-    return report(module, size, fill, request, { most: mostMemory(size) });
+    return reportOn(module, size, fill, request, { most: mostMemory(size) });
 }
 
 /**
- * What is said of the file of a line and of the one that it is compared with.
+ * What is said of the file of a line and of the one that it is compared with, and behind that the report on the file
+ * where it is asked for and neither has a fault.
  * @param {WebAssembly.Module} module
  * @param {RunLine} line
  */
-function compared(module, { request, against: old, file }) {
+async function compared(module, { request, against: old, andReport, file }) {
     if (isInput(old) && isInput(file)) {
         throw new Ending(Exit.invalid, "mmdepend: only one of two databases can be the standard input\n");
     }
     // Both are opened before either is read, as the program does.
     const files = [opened(old), opened(file)];
-    const [oldText, newText] = files.map((each) => textOf(piecesIn(each)));
-    return against(module, oldText, newText, request, { most: mostMemory(oldText.size + newText.size) });
+    const [oldPieces, newPieces] = files.map((each) => piecesIn(each));
+    // A text gives its pieces up once it is put into the module's memory.
+    const [oldText, newText] = [oldPieces, andReport ? [...newPieces] : newPieces].map(textOf);
+    const differences = await against(module, oldText, newText, request, { most: mostMemory(oldText.size + newText.size) });
+    if (!andReport || differences.status !== Status.accepted) return differences;
+    const { size, fill } = textOf(newPieces);
+    const report = await reportOn(module, size, fill, request, { most: mostMemory(size) });
+    return report.status === Status.accepted ? { ...report, report: joined([differences.report, report.report]) } : report;
+}
+
+/**
+ * Pieces one behind the other.
+ * @param {Uint8Array[]} pieces
+ */
+function joined(pieces) {
+    const bytes = new Uint8Array(sizeOf(pieces));
+    join(pieces, bytes);
+    return bytes;
 }
 
 /**
@@ -82,6 +99,9 @@ async function status(words, assets) {
         return 0;
     }
     if (line.ends === "misread") throw new Ending(Exit.invalid, line.text);
+    if (line.andReport && line.against === null) {
+        throw new Ending(Exit.invalid, "mmdepend: --and-report needs --against\n");
+    }
     const answer = line.against === null ? await reported(module, line) : await compared(module, line);
     if (answer.status === Status.noMemory) throw outOfMemory();
     writeAll(STDOUT, answer.report);

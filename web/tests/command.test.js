@@ -36,12 +36,13 @@ test("options and the file", () => {
 test("the older database", () => {
     const against = (/** @type {string[]} */ ...words) => {
         const read = readWords(words, "7");
-        return read.ends === "run" ? [read.against, read.file] : read.ends;
+        return read.ends === "run" ? [read.against, read.andReport, read.file] : read.ends;
     };
-    assert.deepEqual(against("a.mm"), [null, "a.mm"]);
-    assert.deepEqual(against("--against", "old.mm", "new.mm"), ["old.mm", "new.mm"]);
-    assert.deepEqual(against("new.mm", "--against=-"), ["-", "new.mm"]);
+    assert.deepEqual(against("a.mm"), [null, false, "a.mm"]);
+    assert.deepEqual(against("--against", "old.mm", "new.mm"), ["old.mm", false, "new.mm"]);
+    assert.deepEqual(against("new.mm", "--and-report", "--against=-"), ["-", true, "new.mm"]);
     assert.equal(against("--against"), "misread");
+    assert.equal(against("--and-report=1"), "misread");
     assert.equal(against("--against=a", "--against=b"), "misread");
 });
 

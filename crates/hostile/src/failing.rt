@@ -1,8 +1,10 @@
-//! Runs whose reader fails or returns few bytes, and runs whose writer fails or takes few bytes.
+//! Runs whose reader fails or returns few bytes, and runs and comparisons whose writer fails or takes
+//! few bytes.
 
 use crate::calls::{PIECES, WORKERS, ended, plan_of};
 use crate::readers_and_writers::{FailingReader, Stop, StoppingWriter};
 use crate::texts::{FIRST_REPORT, FIRST_TEXT};
+use mm_against::{ComparisonEnd, run_against};
 use mm_plan::Cutting;
 use mm_run::RunEnd;
 use mm_spec::Sections;
@@ -16,6 +18,10 @@ const UNENDED: &[u8] = b"$c a";
 
 /// The refusal of that text.
 const UNENDED_REFUSAL: &[u8] = b"refused 1:5 E08\n";
+
+/// What is written of the first text beside itself, with the report behind the differences.
+const COMPARED_AND_REPORTED: &[u8] =
+    b"mmdepend-differences 1\nnew\ngone\ngained\nlost\nend\nmmdepend 1\naxioms 2\ntheorems 1\nmatrix\nwi2:10\ncounts\nwi2:1\nusage\nwi:1:wi2\nax-1:0:\nend\n";
 
 /// How many calls it takes to read the first text to its end, by ten bytes each, and to learn that
 /// there are no more.
@@ -152,4 +158,59 @@ fn a_writer_that_takes_one_byte_a_call_has_the_whole(rt: HostRuntime) {
         calls: stops_after,
     };
     assert!(&rt; stopped_run_is(&rt, rt.alloc(), FIRST_TEXT, stops_after, stop, want));
+}
+
+/// How a comparison of the first text with itself ends, and what the writer took, where the report
+/// is written behind it and the writer stops after so many bytes. `None` for an unlawful plan.
+fn stopped_comparison<R: Threads + Wait + Sync>(
+    rt: &R,
+    alloc: Global,
+    stops_after: usize,
+) -> Option<(ComparisonEnd, StoppingWriter)> {
+    let mut plan = plan_of(Cutting::Count(PIECES), WORKERS, Sections::by_default());
+    plan.and_report = true;
+    if !plan.is_lawful() {
+        return None;
+    }
+    let mut to = StoppingWriter {
+        taken: Vec::new(alloc),
+        stops_after,
+        stop: Stop::TakesNothing,
+        calls: 0,
+    };
+    let (mut old, mut new) = (FIRST_TEXT, FIRST_TEXT);
+    let end = run_against(rt, alloc, &plan, &mut old, &mut new, &mut to);
+    Some((end, to))
+}
+
+/// Whether such a comparison fails with its output up to there where the writer stops, and doesn't
+/// call it again; or if that is behind the output, ends well.
+fn comparison_stops_at<R: Threads + Wait + Sync>(
+    rt: &R,
+    alloc: Global,
+    stops_after: usize,
+) -> bool {
+    match stopped_comparison(rt, alloc, stops_after) {
+        Some((ComparisonEnd::WriteFailed, to)) => {
+            to.taken.as_slice()
+                == &COMPARED_AND_REPORTED[..stops_after.min(COMPARED_AND_REPORTED.len())]
+                && to.calls == stops_after.saturating_add(1)
+        }
+        Some((ComparisonEnd::Compared, to)) => {
+            to.taken.as_slice() == COMPARED_AND_REPORTED
+                && stops_after == COMPARED_AND_REPORTED.len()
+        }
+        _ => false,
+    }
+}
+
+// Within the differences, between them and the report, and within the report.
+#[test]
+fn a_comparison_with_a_report_stops_where_its_writer_does(rt: HostRuntime) {
+    for stops_after in 0..COMPARED_AND_REPORTED.len() + 1 {
+        assert!(&rt;
+            comparison_stops_at(&rt, rt.alloc(), stops_after),
+            "after {stops_after} bytes"
+        );
+    }
 }

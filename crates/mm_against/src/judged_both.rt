@@ -2,11 +2,11 @@
 
 ghost use Rattle.std.specs.Prelude.{◌≤◌, length};
 ghost use Rattle.mm_spec.specs.Ends.{reading_limit};
-ghost use Rattle.mm_spec.specs.ComparisonEnds.{WroteComparison};
 ghost use Rattle.mm_run.specs.Judging.{IsJudgedText};
 ghost use Rattle.mm_plan.specs.Plans.{IsLawfulPlan, request_of};
+ghost use Rattle.mm_against.specs.Answered.{WroteAnswer};
 
-use crate::comparison::{refuse_old, write_comparison};
+use crate::comparison::{refuse_old, write_answer};
 use mm_plan::Plan;
 use mm_run::{JudgedText, judge};
 use mm_spec::ComparisonEnd;
@@ -29,18 +29,27 @@ fn answer_with<'a, R: Threads + Wait + Sync, A: Allocator + Copy + Send + Sync, 
     requires is_lawful { IsLawfulPlan plan.now }
     requires old_is_judged { IsJudgedText old_text.now plan.now.essential plan.now.with_open
         old.now }
-    ensures { WroteComparison result old_text.now new_text.now (request_of plan.now)
-        (W.contents to.old) (W.contents to.new) }
+    ensures { WroteAnswer plan.now.and_report result old_text.now new_text.now
+        (request_of plan.now) (W.contents to.old) (W.contents to.new) }
 {
     let Ok(new) = judge(rt, alloc, new_text, plan) else {
         return ComparisonEnd::NoMemory;
     };
-    write_comparison(alloc, &plan.request(), old_text, old, new_text, &new, to)
+    write_answer(
+        alloc,
+        &plan.request(),
+        plan.and_report,
+        old_text,
+        old,
+        new_text,
+        &new,
+        to,
+    )
 }
 
 /// Writes what was asked of two texts: the refusal of OLD for its first fault; or if it has none,
-/// that of NEW; or if neither has a fault, their differences. If OLD has a fault, then NEW isn't
-/// judged.
+/// that of NEW; or if neither has a fault, their differences, and behind them the report on NEW if
+/// the plan asks for it. If OLD has a fault, then NEW isn't judged.
 pub(crate) fn answer_against<R: Threads + Wait + Sync, A: Allocator + Copy + Send + Sync, W: Write>(
     rt: &R,
     alloc: A,
@@ -52,8 +61,8 @@ pub(crate) fn answer_against<R: Threads + Wait + Sync, A: Allocator + Copy + Sen
     requires old_le_limit { length old_text.now ≤ reading_limit }
     requires new_le_limit { length new_text.now ≤ reading_limit }
     requires is_lawful { IsLawfulPlan plan.now }
-    ensures { WroteComparison result old_text.now new_text.now (request_of plan.now)
-        (W.contents to.old) (W.contents to.new) }
+    ensures { WroteAnswer plan.now.and_report result old_text.now new_text.now
+        (request_of plan.now) (W.contents to.old) (W.contents to.new) }
 {
     let Ok(old) = judge(rt, alloc, old_text, plan) else {
         return ComparisonEnd::NoMemory;

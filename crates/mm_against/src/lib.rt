@@ -1,12 +1,14 @@
 //! A comparison: from the bytes of two databases, OLD and NEW, to what the one has and the other
-//! hasn't, or to the refusal of the first that has a fault. This layer has both texts read and
-//! judged by the layers below, and only then writes anything. `run_against` promises that the bytes
-//! written are those that the two texts and the request define (`IsComparison` in
-//! `Rattle.mm_spec.specs.Comparison`), for every lawful plan and whatever the readers give.
+//! hasn't, or to the refusal of the first that has a fault. If the plan asks for it, the report on
+//! NEW stands behind that. This layer has both texts read and judged by the layers below, and only
+//! then writes anything. `run_against` promises that the bytes written are those that the two texts
+//! and the plan define (`IsAnswer` in `specs/Answered.antt`, by `IsComparison` in
+//! `Rattle.mm_spec.specs.Comparison` and by `IsOutput`, the output of a run), for every lawful plan
+//! and whatever the readers give.
 #![tactic(auto)]
 
 ghost use Rattle.mm_plan.specs.Plans.{IsLawfulPlan, request_of};
-ghost use Rattle.mm_spec.specs.ComparisonEnds.{EndsComparison};
+ghost use Rattle.mm_against.specs.Answered.{EndsAnswer};
 
 mod comparison;
 mod found;
@@ -28,9 +30,9 @@ use std::thread::Threads;
 
 /// Reads two texts to their ends, first OLD and then NEW, and writes what was asked of both: the
 /// refusal of OLD for its first fault; or if it has none, that of NEW; or if neither has a fault,
-/// their differences. Reading a text stops once it is too long. Of the plan its sections and its
-/// form are not used. On `ReadFailed` and `NoMemory` nothing was written; on `WriteFailed` a prefix
-/// was.
+/// their differences, and behind them the report on NEW if the plan has `and_report`. Without that
+/// the plan's sections and form are not used. Reading a text stops once it is too long. On
+/// `ReadFailed` and `NoMemory` nothing was written; on `WriteFailed` a prefix was.
 pub fn run_against<
     R: Threads + Wait + Sync,
     A: Allocator + Copy + Send + Sync,
@@ -39,7 +41,7 @@ pub fn run_against<
     O: Write,
 >(rt: &R, alloc: A, plan: &Plan<A>, old: &mut I, new: &mut J, to: &mut O) -> ComparisonEnd
     requires { IsLawfulPlan plan.now }
-    ensures { EndsComparison result (request_of plan.now) (I.remaining old.old)
+    ensures { EndsAnswer plan.now.and_report result (request_of plan.now) (I.remaining old.old)
         (I.remaining old.new) (J.remaining new.old) (J.remaining new.new) (O.contents to.old)
         (O.contents to.new) }
 {

@@ -7,3 +7,4 @@
 pub mod GhostBytesLaw
 pub mod FrontLaw
 pub mod CallLaw
+pub mod RefusalLaw

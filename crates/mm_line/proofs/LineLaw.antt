@@ -283,7 +283,8 @@ module _ (texts forms : Bor (List (Bor Text))) where
   the_rules =
       number_rule (codes "workers") ∷ number_rule (codes "pieces") ∷ text_rule (codes "only")
       ∷ report_rule texts ∷ form_rule forms ∷ flag_rule (codes "essential")
-      ∷ flag_rule (codes "open") ∷ text_rule (codes "against") ∷ file_rule ∷ []
+      ∷ flag_rule (codes "open") ∷ text_rule (codes "against") ∷ flag_rule (codes "and-report")
+      ∷ file_rule ∷ []
 
   module _ (c : Command)
       (app_is : app_of c ≡ command_of (report_rule texts) (form_rule forms)) where
@@ -509,12 +510,13 @@ pub line_is_read : (words : List Text) (m : ArgMatches) → Finds words m → (l
     → first_value (found_of m) (codes "form") ≡ Some (form_word line.plan.form)
     → IsFlag (one_text (found_of m) (codes "essential")) line.plan.essential
     → IsFlag (one_text (found_of m) (codes "open")) line.plan.with_open
+    → IsFlag (one_text (found_of m) (codes "and-report")) line.plan.and_report
     → option_map string_bytes line.against ≡ first_value (found_of m) (codes "against")
     → option_map string_bytes line.file ≡ first_value (found_of m) (codes "FILE")
     → AreReadAs words line
 line_is_read words m f line n cuts_are pieces_are one_le_pieces pieces_le_64 workers_are
-    one_le_workers workers_le_64 only_is choice_is form_is essential_is with_open_is against_is
-    file_is =
+    one_le_workers workers_le_64 only_is choice_is form_is essential_is with_open_is and_report_is
+    against_is file_is =
     let rows = matches_of f.app words in
     let first_values_are = first_value_of_rows_is (found_of m) rows f.rows in
     let one_texts_are = one_text_of_rows_is (found_of m) rows f.rows in (
@@ -543,6 +545,9 @@ line_is_read words m f line n cuts_are pieces_are one_le_pieces pieces_le_64 wor
         with_open =
             subst (λ entry. IsFlag entry line.plan.with_open) (one_texts_are (codes "open"))
             with_open_is;
+        and_report =
+            subst (λ entry. IsFlag entry line.plan.and_report) (one_texts_are (codes "and-report"))
+            and_report_is;
         against = sym (first_values_are (codes "against")) ∙ sym against_is;
         file = sym (first_values_are (codes "FILE")) ∙ sym file_is;
         lawful = (

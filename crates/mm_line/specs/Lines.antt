@@ -135,7 +135,7 @@ app_with_name =
     record app { top = record app.top { has_version = true } }
 
 -- mmdepend [--workers N] [--pieces N] [--only T] [--report PART] [--form N] [--essential] [--open]
--- [--against OLD] [FILE]
+-- [--against OLD] [--and-report] [FILE]
 unfoldable pub command_of : (report_option form_option : Rule) → App
 command_of report_option form_option =
     with_rule
@@ -146,9 +146,11 @@ command_of report_option form_option =
     (with_rule
     (with_rule
     (with_rule
+    (with_rule
     (with_rule app_with_name (number_rule (codes "workers"))) (number_rule (codes "pieces")))
     (text_rule (codes "only"))) report_option) form_option) (flag_rule (codes "essential")))
-    (flag_rule (codes "open"))) (text_rule (codes "against"))) file_rule
+    (flag_rule (codes "open"))) (text_rule (codes "against"))) (flag_rule (codes "and-report")))
+    file_rule
 
 -- the command line's description for these words, wherever in memory the texts of `--report` and
 -- the words of `--form` are
@@ -180,6 +182,7 @@ pub record IsLine (rows : List Row) (line : Line) : Type 0 where
   pub form : first_of (codes "form") rows ≡ Some (form_word line.plan.form)
   pub essential : IsFlag (one_of (codes "essential") rows) line.plan.essential
   pub with_open : IsFlag (one_of (codes "open") rows) line.plan.with_open
+  pub and_report : IsFlag (one_of (codes "and-report") rows) line.plan.and_report
   pub against : first_of (codes "against") rows ≡ option_map string_bytes line.against
   pub file : first_of (codes "FILE") rows ≡ option_map string_bytes line.file
   pub lawful : IsLawfulPlan line.plan

@@ -116,6 +116,16 @@ fn against_option<'a>(alloc: Global) -> Arg<'a>
         .help("Write what FILE has and OLD hasn't, and the other way round, in place of the report")
 }
 
+/// The flag by which a comparison writes the report on the one database besides.
+fn and_report_flag<'a>(alloc: Global) -> Arg<'a>
+    ensures { rule_of result ≡ flag_rule (codes "and-report") }
+{
+    Arg::new(alloc, "and-report")
+        .long("and-report")
+        .action(ArgAction::SetTrue)
+        .help("With --against, write the report on FILE behind that, as --report asks for it")
+}
+
 /// The argument that names the database.
 fn file_argument<'a>(alloc: Global) -> Arg<'a>
     ensures { rule_of result ≡ file_rule }
@@ -139,6 +149,7 @@ fn command<'a>(alloc: Global, texts: &'a [&'a str]) -> Result<Command<'a>, Alloc
         essential_flag(alloc),
         open_flag(alloc),
         against_option(alloc),
+        and_report_flag(alloc),
         file_argument(alloc),
     ]?;
     Command::new(alloc, "mmdepend")
@@ -244,6 +255,7 @@ pub fn line<S: AsStr>(alloc: Global, words: &[S]) -> Result<Line, LineRefused>
         form: form_in(&matches),
         essential: matches.get_flag("essential"),
         with_open: matches.get_flag("open"),
+        and_report: matches.get_flag("and-report"),
     };
     let against = text_in(alloc, &matches, "against")?;
     let file = text_in(alloc, &matches, "FILE")?;

@@ -4,7 +4,7 @@
 //! lawful by the definitions in `specs/`. It reads no text and allocates no memory.
 #![tactic(auto)]
 
-ghost use Rattle.std.specs.Prelude.{◌≡◌, ◌↔◌, IsTrue, length};
+ghost use Rattle.std.specs.Prelude.{◌≡◌, ◌↔◌, IsTrue, false, length};
 ghost use Rattle.mm_spec.specs.Request.{without_options};
 ghost use Rattle.mm_plan.specs.Plans.{IsLawfulPlan, IsLawfulCutting, AreSortedUpTo, request_of};
 
@@ -21,8 +21,10 @@ pub enum Cutting<A: Allocator> {
 
 /// What a run is requested to do: how the text is cut, how many workers check the proofs, the
 /// typecode of the axioms that are columns (`None`: all axioms), the sections of the report, the
-/// form of its matrix, whether only the essential nodes of a proof count as citations, and whether
-/// open theorems count as axioms. The cuts and the workers don't change what is written.
+/// form of its matrix, whether only the essential nodes of a proof count as citations, whether open
+/// theorems count as axioms, and whether a comparison of two texts writes the report on NEW behind
+/// the differences (a run on one text doesn't look at that). The cuts and the workers don't change
+/// what is written.
 pub struct Plan<A: Allocator> {
     pub cuts: Cutting<A>,
     pub workers: u32,
@@ -31,6 +33,7 @@ pub struct Plan<A: Allocator> {
     pub form: Form,
     pub essential: bool,
     pub with_open: bool,
+    pub and_report: bool,
 }
 
 /// Dropped in one call: docs/PROOFS.md, "What a check costs".
@@ -44,6 +47,7 @@ impl<A: Allocator> Drop for Plan<A> {
             form: _,
             essential: _,
             with_open: _,
+            and_report: _,
         } = self;
     }
 }
@@ -78,6 +82,7 @@ impl<A: Allocator> Plan<A> {
         ensures cuts_are { result.cuts ≡ cuts }
         ensures workers_are { result.workers ≡ workers }
         ensures requests_no_option { request_of result ≡ without_options }
+        ensures is_no_report_behind { result.and_report ≡ false }
     {
         Plan {
             cuts,
@@ -87,6 +92,7 @@ impl<A: Allocator> Plan<A> {
             form: Form::One,
             essential: false,
             with_open: false,
+            and_report: false,
         }
     }
 

@@ -155,6 +155,40 @@ unmarked_is_report request opened axioms names rows citing told no_marks axioms_
         → (a ≡ false) × (b ≡ false) × (c ≡ false)
     none_of_three a b c none = grind (arith, common_steps)
 
+-- the rows of all theorems of a database without a fault
+rows_without_fault : (request : Request) (d : Contents) (c : Citing)
+    → IsFaultless request.essential request.with_open d c
+    → (rows : List Row) × AllZip (IsRowOf d.statements request) (theorems d.statements) rows
+rows_without_fault request d c is_faultless =
+    let db = d.statements in
+    let all_complete : AreComplete db =
+    subst AreComplete (sym is_faultless.is_counted.statements_are) (counted_complete
+    request.with_open d.read (reads_complete _ _ d.read None is_faultless.has_no_fault.0)) in
+    let are_valid : AllAreValid db =
+    subst AllAreValid (sym is_faultless.is_counted.statements_are) is_faultless.has_no_fault.1 in
+    rows_of_theorems db request all_complete are_valid (theorems db)
+
+-- a text without a fault has an output
+pub has_output : (request : Request) (d : Contents) (c : Citing)
+    → IsFaultless request.essential request.with_open d c
+    → (bytes : List ℕ) × IsOutput d.text request bytes
+has_output request d c is_faultless =
+    let db = d.statements in
+    let axioms = columns db request.only in
+    let rows = rows_without_fault request d c is_faultless in
+    let opened = open_theorem_count request.with_open d axioms in (
+      report request opened (map (label_at db) axioms) rows.0 (citing_rows_of request d c)
+          (told_of d request.only),
+      is_output request d axioms _ is_faultless.is_counted is_faultless.has_no_fault refl
+          (record {
+            rows = rows.0;
+            are_rows = rows.1;
+            citing_rows = citing_rows_of request d c;
+            are_citing_rows = citing_rows_are db request c is_faultless.have_citations;
+            bytes_are = refl;
+          }),
+    )
+
 -- a report without sections of marks is the output of its text
 pub unmarked_is_output : (request : Request) (d : Contents) (c : Citing) (axioms : List ℕ)
     → IsFaultless request.essential request.with_open d c
@@ -163,12 +197,7 @@ pub unmarked_is_output : (request : Request) (d : Contents) (c : Citing) (axioms
 unmarked_is_output request d c axioms is_faultless axioms_are no_marks =
     let db = d.statements in
     let opened = open_theorem_count request.with_open d axioms in
-    let all_complete : AreComplete db =
-    subst AreComplete (sym is_faultless.is_counted.statements_are) (counted_complete
-    request.with_open d.read (reads_complete _ _ d.read None is_faultless.has_no_fault.0)) in
-    let are_valid : AllAreValid db =
-    subst AllAreValid (sym is_faultless.is_counted.statements_are) is_faultless.has_no_fault.1 in
-    let rows = rows_of_theorems db request all_complete are_valid (theorems db) in
+    let rows = rows_without_fault request d c is_faultless in
     let citing = citing_rows_of request d c in
     let are_citing = citing_rows_are db request c is_faultless.have_citations in
     is_output request d axioms _ is_faultless.is_counted is_faultless.has_no_fault axioms_are

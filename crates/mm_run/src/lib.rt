@@ -10,6 +10,7 @@ mod cuts;
 mod input;
 mod judged_text;
 mod output;
+mod prepared;
 
 ghost use Rattle.mm_plan.specs.Plans.{IsLawfulPlan, request_of};
 ghost use Rattle.mm_spec.specs.Ends.{Ends};
@@ -19,6 +20,7 @@ pub use crate::input::{ReadRefused, read_all};
 pub use crate::judged_text::JudgedText;
 use crate::output::answer;
 pub use crate::output::{judge, write_judged};
+pub use crate::prepared::{MarksFor, Prepared, prepare, write_prepared};
 use mm_plan::Plan;
 pub use mm_spec::RunEnd;
 use std::alloc::Allocator;

@@ -1,27 +1,24 @@
 //! What is written for a text: its report or its refusal.
 
-ghost use Rattle.std.specs.Prelude.{◌≡◌, ◌<◌, ◌≤◌, ◌^◌, ℕ, List, IfOk, length, false};
-ghost use Rattle.mm_spec.specs.Request.{Request, has_marks};
+ghost use Rattle.std.specs.Prelude.{◌≡◌, ◌<◌, ◌≤◌, ◌^◌, ℕ, List, IfOk, length};
+ghost use Rattle.mm_spec.specs.Request.{Request};
 ghost use Rattle.mm_spec.specs.Lexed.{lexed_of};
-ghost use Rattle.mm_spec.specs.Output.{FirstFault, columns};
+ghost use Rattle.mm_spec.specs.Output.{FirstFault};
 ghost use Rattle.mm_spec.specs.Ends.{Wrote, reading_limit};
 ghost use Rattle.mm_work.specs.Judged.{IsJudgement};
-ghost use Rattle.mm_rows.specs.Marks.{IsMatrix};
-ghost use Rattle.mm_report.specs.Told.{AreDummiesFor};
 ghost use Rattle.mm_run.specs.Judging.{IsFaultless, IsJudgedText, IsReadFrom};
 ghost use Rattle.mm_plan.specs.Plans.{IsLawfulPlan, request_of};
 
 use crate::RunEnd;
 use crate::cuts::cuts_of;
 use crate::judged_text::{JudgedText, judged_text};
+use crate::prepared::{prepare, write_prepared};
 use mm_database::Database;
 use mm_lex::lex;
 use mm_plan::Plan;
-use mm_report::{Request, write_refusal, write_requested_report, write_rows, write_without_marks};
-use mm_rows::{Columns, MarkedRows, Matrix, marked_rows, matrix};
+use mm_report::{Request, write_refusal};
 use mm_spec::Fault;
 use mm_stmt::read_owned;
-use mm_tell::Dummies;
 use mm_work::{Citations, Judged, Open, check_all, check_alone};
 use std::alloc::{AllocError, Allocator};
 use std::io::Write;
@@ -40,158 +37,6 @@ fn refuse<W: Write>(text: &[u8], fault: Fault, to: &mut W) -> RunEnd
     }
 }
 
-/// Writes the report of a database without a fault, if it has no section of marks. So it needs no
-/// rows.
-fn report_unmarked<'a, A: Allocator, W: Write>(
-    request: &Request<'_>,
-    database: &Database<'a, A>,
-    citations: &Citations<A>,
-    chosen: &Columns<A>,
-    dummy_lists: &Dummies<A>,
-    to: &mut W,
-) -> RunEnd
-    requires is_faultless { IsFaultless request.now.essential request.now.with_open database.now
-        citations.now }
-    requires columns_are { chosen.now ≡ columns database.now.statements request.now.only }
-    requires no_marks { has_marks request.now.sections ≡ false }
-    requires are_dummies { AreDummiesFor request.now database.now dummy_lists.now }
-    ensures { Wrote result database.now.text request.now (W.contents to.old)
-        (W.contents to.new) }
-{
-    match write_without_marks(to, request, database, chosen, citations, dummy_lists) {
-        Ok(()) => RunEnd::Accepted,
-        Err(_) => RunEnd::WriteFailed,
-    }
-}
-
-/// Writes the report of a database without a fault, if it has the usage, which needs the columns.
-fn report_usage<'a, A: Allocator, W: Write>(
-    request: &Request<'_>,
-    database: &Database<'a, A>,
-    citations: &Citations<A>,
-    chosen: &Columns<A>,
-    matrix: &Matrix<A>,
-    dummy_lists: &Dummies<A>,
-    to: &mut W,
-) -> RunEnd
-    requires is_faultless { IsFaultless request.now.essential request.now.with_open database.now
-        citations.now }
-    requires columns_are { chosen.now ≡ columns database.now.statements request.now.only }
-    requires is_matrix { IsMatrix citations.now chosen.now matrix.now }
-    requires are_dummies { AreDummiesFor request.now database.now dummy_lists.now }
-    ensures { Wrote result database.now.text request.now (W.contents to.old)
-        (W.contents to.new) }
-{
-    match write_requested_report(
-        to,
-        request,
-        database,
-        chosen,
-        matrix,
-        citations,
-        dummy_lists,
-    ) {
-        Ok(()) => RunEnd::Accepted,
-        Err(_) => RunEnd::WriteFailed,
-    }
-}
-
-/// Writes the report of a database without a fault, if it hasn't the usage, from the rows alone.
-fn report_rows<'a, A: Allocator, W: Write>(
-    request: &Request<'_>,
-    database: &Database<'a, A>,
-    citations: &Citations<A>,
-    chosen: &Columns<A>,
-    marked: &MarkedRows<A>,
-    dummy_lists: &Dummies<A>,
-    to: &mut W,
-) -> RunEnd
-    requires is_faultless { IsFaultless request.now.essential request.now.with_open database.now
-        citations.now }
-    requires columns_are { chosen.now ≡ columns database.now.statements request.now.only }
-    requires is_matrix { IsMatrix citations.now chosen.now marked.now }
-    requires no_usage { request.now.sections.usage ≡ false }
-    requires are_dummies { AreDummiesFor request.now database.now dummy_lists.now }
-    ensures { Wrote result database.now.text request.now (W.contents to.old)
-        (W.contents to.new) }
-{
-    match write_rows(
-        to,
-        request,
-        database,
-        chosen,
-        marked,
-        citations,
-        dummy_lists,
-    ) {
-        Ok(()) => RunEnd::Accepted,
-        Err(_) => RunEnd::WriteFailed,
-    }
-}
-
-/// Writes the report of a database without a fault, if it has a section of marks.
-fn report_marked<'a, A: Allocator + Copy, W: Write>(
-    alloc: A,
-    request: &Request<'_>,
-    database: &Database<'a, A>,
-    citations: &Citations<A>,
-    chosen: &Columns<A>,
-    dummy_lists: &Dummies<A>,
-    to: &mut W,
-) -> RunEnd
-    requires is_faultless { IsFaultless request.now.essential request.now.with_open database.now
-        citations.now }
-    requires columns_are { chosen.now ≡ columns database.now.statements request.now.only }
-    requires are_dummies { AreDummiesFor request.now database.now dummy_lists.now }
-    ensures { Wrote result database.now.text request.now (W.contents to.old)
-        (W.contents to.new) }
-{
-    if request.sections.usage {
-        // The rows are made on the calling thread, and so no runtime is lent.
-        match matrix(&(), alloc, citations, chosen) {
-            Ok(matrix) => report_usage(
-                request,
-                database,
-                citations,
-                chosen,
-                &matrix,
-                dummy_lists,
-                to,
-            ),
-            Err(_) => RunEnd::NoMemory,
-        }
-    } else {
-        match marked_rows(alloc, citations, chosen) {
-            Ok(marked) => report_rows(
-                request,
-                database,
-                citations,
-                chosen,
-                &marked,
-                dummy_lists,
-                to,
-            ),
-            Err(_) => RunEnd::NoMemory,
-        }
-    }
-}
-
-/// Finds the dummy variables of a database's theorems, if the statements are requested, which tell
-/// them. Fails only if out of memory, or if there are 2^32 of them or more.
-fn dummies_for<'a, A: Allocator + Copy>(
-    alloc: A,
-    request: &Request<'_>,
-    database: &Database<'a, A>,
-) -> Result<Dummies<A>, AllocError>
-    ensures { IfOk result (AreDummiesFor request.now database.now) }
-{
-    if request.sections.statements {
-        Dummies::new(alloc, database, request.only)
-    } else {
-        Ok(Dummies::none(alloc))
-    }
-}
-
 /// Writes the report of a database without a fault.
 fn report<'a, A: Allocator + Copy, W: Write>(
     alloc: A,
@@ -205,24 +50,12 @@ fn report<'a, A: Allocator + Copy, W: Write>(
     ensures { Wrote result database.now.text request.now (W.contents to.old)
         (W.contents to.new) }
 {
-    let Ok(chosen) = Columns::new(alloc, database, request.only) else {
+    let Ok(prepared) = prepare(alloc, request, database, citations) else {
         return RunEnd::NoMemory;
     };
-    let Ok(dummy_lists) = dummies_for(alloc, request, database) else {
-        return RunEnd::NoMemory;
-    };
-    if request.sections.has_marks() {
-        report_marked(
-            alloc,
-            request,
-            database,
-            citations,
-            &chosen,
-            &dummy_lists,
-            to,
-        )
-    } else {
-        report_unmarked(request, database, citations, &chosen, &dummy_lists, to)
+    match write_prepared(to, request, database, citations, &prepared) {
+        Ok(()) => RunEnd::Accepted,
+        Err(_) => RunEnd::WriteFailed,
     }
 }
 

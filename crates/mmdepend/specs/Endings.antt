@@ -1,7 +1,7 @@
 -- How the program ends: what the words request, what is read and written, the message and the
 -- status.
 use Rattle.std.specs.Prelude.{◌≡◌, ◌++◌, ℕ, List, [], ◌∷◌, take, codes, Option, Some, None}
-use Rattle.std.specs.Prelude.{IsSome, bytes_eq, if◌then◌else◌, ◌⊎◌}
+use Rattle.std.specs.Prelude.{IsSome, bytes_eq, if◌then◌else◌, ◌⊎◌, true, false}
 use Rattle.std.specs.Option.{option_map}
 use Rattle.std.specs.String.{string_bytes}
 use Rattle.std.specs.Io.KnownBytes.{Appends, Keeps}
@@ -11,16 +11,16 @@ use Rattle.mm_spec.specs.Ends.{Ends}
 use Rattle.mm_spec.specs.declared.RunEnd.{RunEnd}
 use Rattle.mm_spec.specs.declared.RunEnd.TheVariants.{Accepted, Refused, ReadFailed, WriteFailed}
 use Rattle.mm_spec.specs.declared.RunEnd.TheVariants.{NoMemory as RunNoMemory}
-use Rattle.mm_spec.specs.ComparisonEnds.{EndsComparison}
 use Rattle.mm_spec.specs.declared.ComparisonEnd.{ComparisonEnd}
 use Rattle.mm_spec.specs.declared.ComparisonEnd.TheVariants as comparison
+use Rattle.mm_against.specs.Answered.{EndsAnswer}
 use Rattle.mm_line.specs.Lines.{IsLineRefusal, AreReadAs}
 use Rattle.mm_line.specs.declared.command_line.Line.{Line}
 use Rattle.mm_line.specs.declared.command_line.LineRefused.TheVariants.{Help, Bad}
 use Rattle.mmdepend.specs.declared.ending.Ending.{Ending}
 use Rattle.mmdepend.specs.declared.ending.Ending.TheVariants.{Ran, Compared, Helped, HelpFailed}
-use Rattle.mmdepend.specs.declared.ending.Ending.TheVariants.{Misread, BothInputs, NotOpened}
-use Rattle.mmdepend.specs.declared.ending.Ending.TheVariants.{NoMemory}
+use Rattle.mmdepend.specs.declared.ending.Ending.TheVariants.{Misread, BothInputs, NothingCompared}
+use Rattle.mmdepend.specs.declared.ending.Ending.TheVariants.{NotOpened, NoMemory}
 
 -- a prefix of the text was written, or the whole text
 abbrev pub IsPrefixWritten : (bytes_before bytes_after : Option (List ℕ)) → List ℕ → Type 0
@@ -61,16 +61,16 @@ module _ {File : Type 0} (remaining : File → Option (List ℕ)) where
   Compares None None end line input_before input_after output_before output_after = ⊥
   Compares None (Some new) end line input_before input_after output_before output_after =
       (opened_new read_new : File)
-      × EndsComparison end (request_of line.plan) input_before input_after (remaining opened_new)
+      × EndsAnswer line.plan.and_report end (request_of line.plan) input_before input_after (remaining opened_new)
       (remaining read_new) output_before output_after
   Compares (Some old) None end line input_before input_after output_before output_after =
       (opened_old read_old : File)
-      × EndsComparison end (request_of line.plan) (remaining opened_old) (remaining read_old)
+      × EndsAnswer line.plan.and_report end (request_of line.plan) (remaining opened_old) (remaining read_old)
       input_before input_after output_before output_after
   Compares (Some old) (Some new) end line input_before input_after output_before output_after =
       Keeps input_before input_after
       × ((opened_old read_old opened_new read_new : File)
-      × EndsComparison end (request_of line.plan) (remaining opened_old) (remaining read_old)
+      × EndsAnswer line.plan.and_report end (request_of line.plan) (remaining opened_old) (remaining read_old)
       (remaining opened_new) (remaining read_new) output_before output_after)
 
   -- a file is named for opening
@@ -83,6 +83,7 @@ module _ {File : Type 0} (remaining : File → Option (List ℕ)) where
       → (input_before input_after output_before output_after : Option (List ℕ)) → Type 0
   IsEndingOf words (Ran end) input_before input_after output_before output_after =
       (line : Line) × AreReadAs words line × (line.against ≡ None)
+      × (line.plan.and_report ≡ false)
       × Runs (opened_file_of line) end line input_before input_after output_before output_after
   IsEndingOf words (Compared end) input_before input_after output_before output_after =
       (line : Line) × AreReadAs words line × IsSome line.against
@@ -91,6 +92,10 @@ module _ {File : Type 0} (remaining : File → Option (List ℕ)) where
   IsEndingOf words BothInputs input_before input_after output_before output_after =
       (line : Line) × AreReadAs words line × IsSome line.against
       × (opened_old_of line ≡ None) × (opened_file_of line ≡ None)
+      × Keeps input_before input_after × Keeps output_before output_after
+  IsEndingOf words NothingCompared input_before input_after output_before output_after =
+      (line : Line) × AreReadAs words line × (line.against ≡ None)
+      × (line.plan.and_report ≡ true)
       × Keeps input_before input_after × Keeps output_before output_after
   IsEndingOf words NotOpened input_before input_after output_before output_after =
       (line : Line) × AreReadAs words line × NamesFile line × Keeps input_before input_after
@@ -132,6 +137,7 @@ status_of (Helped text) = 0
 status_of (HelpFailed text) = 3
 status_of (Misread text) = 2
 status_of BothInputs = 2
+status_of NothingCompared = 2
 status_of NotOpened = 3
 status_of NoMemory = 4
 
@@ -165,6 +171,7 @@ message_of (HelpFailed text) = message (codes "writing failed")
 message_of (Misread text) = string_bytes text
 message_of BothInputs =
     message (codes "only one of two databases can be the standard input")
+message_of NothingCompared = message (codes "--and-report needs --against")
 message_of NotOpened = message (codes "cannot open the file")
 message_of NoMemory = message (codes "out of memory")
 

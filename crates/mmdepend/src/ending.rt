@@ -22,6 +22,8 @@ pub enum Ending {
     Misread(String),
     /// Both databases that are to be compared are the standard input.
     BothInputs,
+    /// The report on one of two databases was asked for besides, and there is only one.
+    NothingCompared,
     /// A file couldn't be opened.
     NotOpened,
     /// Out of memory while the words were read.
@@ -29,6 +31,8 @@ pub enum Ending {
 }
 
 const BOTH_INPUTS: &[u8] = b"mmdepend: only one of two databases can be the standard input\n";
+
+const NOTHING_COMPARED: &[u8] = b"mmdepend: --and-report needs --against\n";
 
 const CANNOT_OPEN: &[u8] = b"mmdepend: cannot open the file\n";
 
@@ -49,7 +53,7 @@ impl Ending {
             Ending::Ran(end) => run_status(*end),
             Ending::Compared(end) => comparison_status(*end),
             Ending::Helped(_) => 0,
-            Ending::Misread(_) | Ending::BothInputs => 2,
+            Ending::Misread(_) | Ending::BothInputs | Ending::NothingCompared => 2,
             Ending::HelpFailed(_) | Ending::NotOpened => 3,
             Ending::NoMemory => 4,
         }
@@ -66,6 +70,7 @@ impl Ending {
             Ending::HelpFailed(_) => WRITING_FAILED,
             Ending::Misread(text) => text.as_bytes(),
             Ending::BothInputs => BOTH_INPUTS,
+            Ending::NothingCompared => NOTHING_COMPARED,
             Ending::NotOpened => CANNOT_OPEN,
             Ending::NoMemory => OUT_OF_MEMORY,
         }

@@ -51,7 +51,8 @@ fn opened_name(name: &Option<String>) -> Option<&str>
     }
 }
 
-/// Opens the file that the line names, if it isn't standard input, and calls `run`.
+/// Opens the file that the line names, if it isn't standard input, and calls `run`; unless the line
+/// asks for a report besides a comparison that it doesn't ask for.
 fn run_line<R: Threads + Wait + Files + Sync, I: Read, O: Write>(
     rt: &R,
     alloc: Global,
@@ -65,6 +66,9 @@ fn run_line<R: Threads + Wait + Files + Sync, I: Read, O: Write>(
         → IsEndingOf R.File.remaining words result (I.remaining input.old)
         (I.remaining input.new) (O.contents output.old) (O.contents output.new) }
 {
+    if line.plan.and_report {
+        return Ending::NothingCompared;
+    }
     match opened_name(&line.file) {
         None => Ending::Ran(run(rt, alloc, &line.plan, input, output)),
         Some(name) => match fs::open(rt, name) {

@@ -183,6 +183,10 @@ fn a_file_is_read_in_place_of_the_input(rt: HostRuntime) -> Result<(), Fail> {
 /// What is written of a database that is compared with itself.
 const NO_DIFFERENCES: &[u8] = b"mmdepend-differences 1\nnew\ngone\ngained\nlost\nend\n";
 
+/// The same, and behind it the report.
+const DIFFERENCES_AND_REPORT: &[u8] =
+    b"mmdepend-differences 1\nnew\ngone\ngained\nlost\nend\nmmdepend 1\naxioms 2\ntheorems 1\nmatrix\nwi2:10\ncounts\nwi2:1\nusage\nwi:1:wi2\nax-1:0:\nend\n";
+
 // OLD is a file and NEW the input, or the other way round, or both are files; both can't be the
 // input.
 #[test]
@@ -221,6 +225,25 @@ fn two_databases_are_compared(rt: HostRuntime) -> Result<(), Fail> {
     Ok(())
 }
 
+// The report on NEW stands behind the differences as a run on NEW alone writes it, with its
+// sections. A refusal stands alone.
+#[test]
+fn the_report_behind_the_differences(rt: HostRuntime) -> Result<(), Fail> {
+    let mut path = env::temp_dir(&rt)?;
+    path.push("mmdepend-reported.mm")?;
+    let name = path.as_str();
+    fs::write(&rt, name, FIRST)?;
+    let words = ["mmdepend", "--against", name, "--and-report"];
+    let with_report = is_run_of(&rt, &words, FIRST, 0, DIFFERENCES_AND_REPORT, b"");
+    let refusal = b"new refused 1:3 E08\n".as_slice();
+    let unended = b"$c".as_slice();
+    let is_refused = is_run_of(&rt, &words, unended, 1, refusal, b"");
+    fs::remove_file(&rt, name)?;
+    assert!(&rt; with_report);
+    assert!(&rt; is_refused);
+    Ok(())
+}
+
 #[test]
 fn two_databases_that_cannot_be_compared(rt: HostRuntime) {
     let both = b"mmdepend: only one of two databases can be the standard input\n".as_slice();
@@ -230,6 +253,8 @@ fn two_databases_that_cannot_be_compared(rt: HostRuntime) {
     assert!(&rt; is_run_of(&rt, &words, FIRST, READ_FAILED, b"", unopened));
     let words = ["mmdepend", "--against", "-", "no/such/file.mm"];
     assert!(&rt; is_run_of(&rt, &words, FIRST, READ_FAILED, b"", unopened));
+    let alone = b"mmdepend: --and-report needs --against\n".as_slice();
+    assert!(&rt; is_run_of(&rt, &["mmdepend", "--and-report"], FIRST, 2, b"", alone));
 }
 
 /// Whether the program, on these words and the first text, says that writing failed, with an output

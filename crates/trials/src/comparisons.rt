@@ -4,7 +4,8 @@
 use crate::texts::{FIRST_TEXT, joined};
 use mm_against::{ComparisonEnd, run_against};
 use mm_plan::{Cutting, Plan};
-use mm_spec::{Code, Fault};
+use mm_run::run;
+use mm_spec::{Code, Fault, Sections};
 use std::alloc::{AllocError, Global};
 use std::sync::Wait;
 use std::thread::Threads;
@@ -55,6 +56,33 @@ const CASES: [Case; 6] = [
     },
 ];
 
+/// Sections of reports: none, the rows alone, rows and columns, and those without marks.
+const REPORTS: [Sections; 4] = [
+    NO_SECTION,
+    Sections {
+        matrix: true,
+        counts: true,
+        ..NO_SECTION
+    },
+    Sections {
+        usage: true,
+        ..NO_SECTION
+    },
+    Sections {
+        citations: true,
+        statements: true,
+        ..NO_SECTION
+    },
+];
+
+const NO_SECTION: Sections = Sections {
+    matrix: false,
+    counts: false,
+    usage: false,
+    citations: false,
+    statements: false,
+};
+
 /// What a comparison with so many workers writes, and how it ends.
 fn compared<R: Threads + Wait + Sync>(
     rt: &R,
@@ -70,6 +98,71 @@ fn compared<R: Threads + Wait + Sync>(
     let mut written = Vec::new(alloc);
     let end = run_against(rt, alloc, &plan, &mut old, &mut new, &mut written);
     Some((end, written))
+}
+
+/// What is written of two texts with so many workers and these sections, and behind it the report on
+/// NEW: by one comparison, and by a comparison and a run on NEW. `None` for an unlawful plan.
+fn both_ways<R: Threads + Wait + Sync>(
+    rt: &R,
+    alloc: Global,
+    workers: u32,
+    sections: Sections,
+    old: &[u8],
+    new: &[u8],
+) -> Option<(Vec<u8>, Vec<u8>)> {
+    let mut plan = Plan::without_options(Cutting::Count(workers), workers);
+    plan.choice = sections;
+    plan.and_report = true;
+    if !plan.is_lawful() {
+        return None;
+    }
+    let (mut old_rest, mut new_rest) = (old, new);
+    let mut at_once = Vec::new(alloc);
+    let end = run_against(rt, alloc, &plan, &mut old_rest, &mut new_rest, &mut at_once);
+    plan.and_report = false;
+    let (mut old_rest, mut new_rest) = (old, new);
+    let mut in_turn = Vec::new(alloc);
+    let alone = run_against(rt, alloc, &plan, &mut old_rest, &mut new_rest, &mut in_turn);
+    if alone == ComparisonEnd::Compared {
+        let mut new_rest = new;
+        let _ = run(rt, alloc, &plan, &mut new_rest, &mut in_turn);
+    }
+    if end == alone {
+        Some((at_once, in_turn))
+    } else {
+        None
+    }
+}
+
+/// Whether a comparison with the report behind it writes of a case what a comparison and a run on
+/// NEW write, for so many workers: with each section alone, and with none.
+fn is_written_behind<R: Threads + Wait + Sync>(
+    rt: &R,
+    alloc: Global,
+    workers: u32,
+    case: &Case,
+) -> Result<bool, AllocError> {
+    let old = joined(alloc, &[FIRST_TEXT, case.old])?;
+    let new = joined(alloc, &[FIRST_TEXT, case.new])?;
+    let mut is_right = true;
+    for sections in REPORTS {
+        is_right = is_right
+            && match both_ways(rt, alloc, workers, sections, &old, &new) {
+                Some((at_once, in_turn)) => at_once == in_turn,
+                None => false,
+            };
+    }
+    Ok(is_right)
+}
+
+#[test]
+fn the_report_stands_behind_the_differences(rt: HostRuntime) {
+    for (row, case) in CASES.iter().enumerate() {
+        for workers in [1, 64] {
+            let is_right = is_written_behind(&rt, rt.alloc(), workers, case).unwrap_or(false);
+            assert!(&rt; is_right, "case {row} by {workers} workers");
+        }
+    }
 }
 
 /// Whether the output of a case is written with so many workers.

@@ -8,7 +8,7 @@ use std::alloc::{AllocError, Global};
 
 /// What `--help` prints.
 const HELP: &str =
-    "Verifies a Metamath database and reports on which axioms each theorem rests\n\nUsage: mmdepend [OPTIONS] [FILE]\n\nArguments:\n  [FILE]  The database; without it, or where it is -, the standard input is read\n\nOptions:\n      --workers <N>    Check the proofs by N threads, 1 to 64 [default: 4]\n      --pieces <N>     Read the text in N pieces, 1 to 64 [default: 4]\n      --only <T>       Report on the axioms of typecode T alone, such as '|-'\n      --report <PART>  Write these parts of the report, with commas between them: matrix, counts, usage, citations, statements, or all, which is the first three [default: all]\n      --form <N>       Write the matrix as a digit for each column, or for each four [default: 1] [possible values: 1, 2]\n      --essential      Count what the logical part of a proof cites, and not what builds its formulas\n      --open           Count a theorem whose proof is ? as an axiom\n      --against <OLD>  Write what FILE has and OLD hasn't, and the other way round, in place of the report\n  -h, --help           Print help\n  -V, --version        Print version\n\nThe standard output gets the report, or one line with the first fault and its place.\nStatus: 0 accepted, 1 refused, 2 invalid command line, 3 reading or writing failed,\n4 out of memory. For 2 to 4 the standard error says why.\nThe codes of faults (E00 to E45) are explained in docs/FAULTS.md.\n";
+    "Verifies a Metamath database and reports on which axioms each theorem rests\n\nUsage: mmdepend [OPTIONS] [FILE]\n\nArguments:\n  [FILE]  The database; without it, or where it is -, the standard input is read\n\nOptions:\n      --workers <N>    Check the proofs by N threads, 1 to 64 [default: 4]\n      --pieces <N>     Read the text in N pieces, 1 to 64 [default: 4]\n      --only <T>       Report on the axioms of typecode T alone, such as '|-'\n      --report <PART>  Write these parts of the report, with commas between them: matrix, counts, usage, citations, statements, or all, which is the first three [default: all]\n      --form <N>       Write the matrix as a digit for each column, or for each four [default: 1] [possible values: 1, 2]\n      --essential      Count what the logical part of a proof cites, and not what builds its formulas\n      --open           Count a theorem whose proof is ? as an axiom\n      --against <OLD>  Write what FILE has and OLD hasn't, and the other way round, in place of the report\n      --and-report     With --against, write the report on FILE behind that, as --report asks for it\n  -h, --help           Print help\n  -V, --version        Print version\n\nThe standard output gets the report, or one line with the first fault and its place.\nStatus: 0 accepted, 1 refused, 2 invalid command line, 3 reading or writing failed,\n4 out of memory. For 2 to 4 the standard error says why.\nThe codes of faults (E00 to E45) are explained in docs/FAULTS.md.\n";
 
 /// The number of pieces and of workers of a line that names none.
 const DEFAULT: u32 = 4;
@@ -162,15 +162,21 @@ const REPORT_OPTIONS: [(&[&str], Form, bool, bool); 5] = [
     ),
 ];
 
-/// Whether the words are accepted, with this name of the file that is compared with.
+/// Whether the words are accepted, with this name of the file that is compared with, and ask for the
+/// report besides or not.
 fn is_compared_with(
     alloc: Global,
     words: &[&str],
     against: Option<&str>,
+    and_report: bool,
     file: Option<&str>,
 ) -> bool {
     match line(alloc, words) {
-        Ok(line) => line.against.as_deref() == against && line.file.as_deref() == file,
+        Ok(line) => {
+            line.against.as_deref() == against
+                && line.plan.and_report == and_report
+                && line.file.as_deref() == file
+        }
         Err(_) => false,
     }
 }
@@ -179,10 +185,12 @@ fn is_compared_with(
 fn the_file_that_is_compared_with(rt: HostRuntime) {
     let alloc = rt.alloc();
     let both = ["mmdepend", "--against", "old.mm", "new.mm"];
+    let reported = ["mmdepend", "--and-report", "--against", "old.mm"];
     assert!(&rt;
-        is_compared_with(alloc, &["mmdepend", "new.mm"], None, Some("new.mm"))
-            && is_compared_with(alloc, &both, Some("old.mm"), Some("new.mm"))
-            && is_compared_with(alloc, &["mmdepend", "--against=-"], Some("-"), None)
+        is_compared_with(alloc, &["mmdepend", "new.mm"], None, false, Some("new.mm"))
+            && is_compared_with(alloc, &both, Some("old.mm"), false, Some("new.mm"))
+            && is_compared_with(alloc, &["mmdepend", "--against=-"], Some("-"), false, None)
+            && is_compared_with(alloc, &reported, Some("old.mm"), true, None)
     );
 }
 

@@ -1,5 +1,5 @@
 use Rattle.std.proofs.Common.{inl, inr}
-use Rattle.mm_against.proofs.WrittenLaw.{new_refusal_is_comparison, old_refusal_is_comparison}
+use Rattle.mm_library.proofs.RefusalLaw.{new_refusal_is_comparison, old_refusal_is_comparison}
 use Rattle.mm_library.proofs.FrontLaw.{contents_grow}
 use Rattle.mm_library.proofs.comparison.write_output.Goals as goal
 

@@ -23,7 +23,7 @@ returns c =
     c.number_option.result ∷ c.number_option-2.result ∷ c.only_option.result
     ∷ c.report_option.result ∷ c.form_option.result
     ∷ c.essential_flag.result ∷ c.open_flag.result ∷ c.against_option.result
-    ∷ c.file_argument.result ∷ [] in
+    ∷ c.and_report_flag.result ∷ c.file_argument.result ∷ [] in
     let rules_are : map rule_of args ≡ the_rules texts form_names_are.0 =
     cc (
       c.number_option.ensures,
@@ -34,6 +34,7 @@ returns c =
       c.essential_flag.ensures,
       c.open_flag.ensures,
       c.against_option.ensures,
+      c.and_report_flag.ensures,
       c.file_argument.ensures,
     ) in
     IfOk-weaker c.args-2.result _ _

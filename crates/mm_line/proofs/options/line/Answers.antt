@@ -13,4 +13,5 @@ returns-clause-is_read g c =
     c.in_ok-text_in.ensures c.sections_in.ensures c.form_in.ensures
     (c.get_flag.ensures.none, c.get_flag.ensures.value, c.get_flag.ensures.other)
     (c.get_flag-2.ensures.none, c.get_flag-2.ensures.value, c.get_flag-2.ensures.other)
+    (c.get_flag-3.ensures.none, c.get_flag-3.ensures.value, c.get_flag-3.ensures.other)
     c.in_ok-against.ensures c.in_ok-file.ensures
