@@ -107,6 +107,8 @@ THEOREMS = {
     "axreg2": "ax-reg",
     "r1pw": "axreg2",
     "r1pwALT": "ax-1",
+    "idALT": "ax-1",
+    "id1": "idALT",
 }
 """Theorems of set.mm that the pages name, each with what it cites here."""
 
@@ -139,7 +141,8 @@ def stand_in() -> str:
     lines += [f"{name} $a {formula} $." for name in AXIOMS.split()]
     lines.append(header(3, "b"))
     lines += [f"{name} $p {formula} $= wp wq {cited} $." for name, cited in THEOREMS.items()]
-    lines.append(header(1, "Mathbox for A B"))
+    lines += [header(1, "Elementary geometry"), header(1, "Mathbox for A B")]
+    lines += [header(1, "Mathbox for Stefan Allan"), f"foo3 $p {formula} $= wp wq ax-1 $."]
     return "\n".join(lines) + "\n"
 
 
