@@ -5,8 +5,8 @@ use Rattle.std.proofs.Common.{List, [], ◌∷◌, ◌++◌, length, get_or, set
 use Rattle.std.proofs.Common.{refl, sym, ap, ap₂, ◌∙◌, subst, arith, eq-eqb, eqb-true, true≢false}
 use Rattle.std.proofs.Common.{length-append, ◌⊎◌, inl, inr, All, take}
 use Rattle.std.proofs.lemmas.Grind.{common_steps}
-use Rattle.std.proofs.lemmas.Bool.{cases_eq, and_parts, or_cases, or_right, lt-ltb, ltb-true}
-use Rattle.std.proofs.lemmas.List.{get_or_push, get_or_append_left, get_or-set_same}
+use Rattle.std.proofs.lemmas.Bool.{cases_eq, and_parts, or_cases, or_right}
+use Rattle.std.proofs.lemmas.List.{get_or_push, get_or-set_same}
 use Rattle.std.proofs.lemmas.List.{get_or-set_other, length-set, append-nil, append_assoc}
 use Rattle.std.proofs.lemmas.Bool.Decides.{nat_tests}
 use Rattle.std.proofs.lemmas.List.Folds.{list_any_more, list_any-append}
@@ -19,7 +19,7 @@ use Rattle.mm_spec.specs.Derivation.{is_member}
 use Rattle.mm_spec.specs.Frame.{symbol_names, is_disjoint_statement, formula_at}
 use Rattle.mm_outline.proofs.StatementsLaw.{passing_lt_length}
 use Rattle.mm_spec.specs.Rising.{IsRisingFrom}
-use Rattle.mm_frame.specs.Chains.{IsLinkChain, AreLinked, HasChain, AreChains, has_lower}
+use Rattle.mm_frame.specs.Chains.{IsLinkChain, AreLinked, HasChain, AreChains}
 use Rattle.mm_database.specs.DisjointIndex.{has_symbol_by_width, is_disjoint_by_width}
 use Rattle.mm_database.specs.Pairs.{has_pair, IsBefore, AreRising}
 use Rattle.mm_database.specs.ParsedStatements.{IsSound}
@@ -155,7 +155,7 @@ chains_for_equal_tests passes equal_test a b heads links a_le_b tests_equal are_
 module _ (passes : ℕ → ℕ → Bool) (test : ℕ → Bool) (xs : List ℕ) (i d s k : ℕ)
     (i_lt_length_xs : i < length xs) (s_is_element_i : s ≡ get_or xs i d)
   where
-    member_of_one_more : (x : ℕ)
+    pub member_of_one_more : (x : ℕ)
         → is_member (take (i + 1) xs) x ≡ (is_member (take i xs) x || nat_eq x s)
     member_of_one_more x =
         grind (arith, nat_tests, s_is_element_i, list_any_more (nat_eq x) xs i d i_lt_length_xs)
@@ -166,12 +166,6 @@ module _ (passes : ℕ → ℕ → Bool) (test : ℕ → Bool) (xs : List ℕ) (
         || (nat_eq x s && nat_eq j k))
         ≡ (passes x j || ((test x && is_member (take (i + 1) xs) x) && nat_eq j k))
     test_with_next_symbol s_passes x j = grind (arith, nat_tests, s_passes, member_of_one_more x)
-
-    -- the symbol after them doesn't pass
-    pub test_without_next_symbol : test s ≡ false → (x j : ℕ)
-        → (passes x j || ((test x && is_member (take i xs) x) && nat_eq j k))
-        ≡ (passes x j || ((test x && is_member (take (i + 1) xs) x) && nat_eq j k))
-    test_without_next_symbol s_fails x j = grind (arith, nat_tests, s_fails, member_of_one_more x)
 
 -- ---- the statements, from the last to the first
 
@@ -238,16 +232,6 @@ member_lt_bound n y (x ∷ xs) all_lt_n y_is_member =
         (search (rules, arith, eqb-true, All-head))
     y_lt_n (inr y_in_rest) rest_lt_n = rest_lt_n y_in_rest
 
--- all members are below what the list is below
-pub members_below : (n x : ℕ) (xs : List ℕ) → All (λ s. s < n) xs
-    → (nat_lt x n && is_member xs x) ≡ is_member xs x
-members_below n x xs all_lt_n = below (is_member xs x) refl
-  where
-    below : (b : Bool) → is_member xs x ≡ b → (nat_lt x n && b) ≡ b
-    below true x_is_member = ap (λ b. b && true) (lt-ltb x n
-        (member_lt_bound n x xs all_lt_n x_is_member))
-    below false x_is_member = and-false (nat_lt x n)
-
 -- a symbol of a `$d` has a number
 pub symbol_lt_symbol_count : (db : List Statement) → IsSound db → (narrow : Bool) (x j : ℕ)
     → has_symbol_by_width db narrow x j ≡ true
@@ -260,23 +244,6 @@ symbol_lt_symbol_count db sound narrow x j j_has_x =
     member_lt_bound (length (symbol_names db)) x (formula_at db j)
     (sound.symbols_have_numbers j j_lt_length)
     parts.1
-
--- ---- the pairs, from the last to the first
-
--- the pair with index k stands in front of the chains of the lower symbols
-pub lower_with_pair : (db : List Statement) (pairs : List (ℕ × ℕ)) (k least : ℕ) (p : ℕ × ℕ)
-    (xs : List ℕ) → least ≡ k + 1 → k < length pairs → p ≡ get_or pairs k (0, 0)
-    → xs ≡ formula_at db p.1 → (x i : ℕ)
-    → ((nat_le least i && has_lower db pairs x i)
-    || ((nat_lt x p.0 && is_member xs x) && nat_eq i k))
-    ≡ (nat_le k i && has_lower db pairs x i)
-lower_with_pair db pairs k least p xs least_is_next_k k_lt_length p_is_pair xs_are_formula x i =
-    grind (arith, common_steps, at_or_later, lt-ltb)
-
--- what a chain of pairs has are their indices
-pub lower_lt_length : (db : List Statement) (pairs : List (ℕ × ℕ)) (x i : ℕ)
-    → has_lower db pairs x i ≡ true → i < length pairs
-lower_lt_length db pairs x i is_lower = grind (arith, common_steps, ltb-true, and_parts)
 
 -- ---- the pairs of one chain
 

@@ -3,10 +3,10 @@
 -- `candidate_at_latest` and `walked_is_active` (`LatestLaw.antt`) find the active `$e`,
 -- `found_are_mandatory_variables` the variables, and `hypotheses_are_mandatory`
 -- (`HypothesesLaw.antt`) the hypotheses. `has_symbol_with_disjoint` and `pairs_with_symbol`
--- (`ChainsLaw.antt`) give the `$d` by variables. `chained_are_higher` and `row_with_next`
--- (`DisjointRowsLaw.antt`) make the rows of the narrow ones. With `have_blocks` of `mm_database`
--- they give `IsDisjointIndex`. `pairs_are_mandatory_pairs` (`MandatoryPairsLaw.antt`) gives the
--- pairs. `wide_are_listed` and `rows_are_listed` (`SymbolFactsLaw.antt`) say that only variables
+-- (`ChainsLaw.antt`) give the `$d` by variables. `row_with_pair` and `row_without_pair`
+-- (`DisjointRowsLaw.antt`) make the rows of the narrow ones, and `rows_of_all` says that they are
+-- those of all symbols. With `have_blocks` of `mm_database` they give `IsDisjointIndex`.
+-- `pairs_are_mandatory_pairs` (`MandatoryPairsLaw.antt`) gives the pairs. `wide_are_listed` and `rows_are_listed` (`SymbolFactsLaw.antt`) say that only variables
 -- that may be in an active `$d` need be looked up.
 -- `same_frame` (`NeighboursLaw.antt`) says when an assertion has the frame of the one before it,
 -- and `same_scope_of_latest` when the same `$d`, `$e` and `$f` are active at both.

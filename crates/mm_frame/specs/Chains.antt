@@ -2,19 +2,10 @@
 -- no link has the number 0, which ends a chain. A link has a statement and the number of the next
 -- link.
 use Rattle.std.specs.Prelude.{◌≡◌, ℕ, ◌<◌, ◌≤◌, ◌-◌, Bool, ◌&&◌, ◌||◌, List, [], ◌∷◌, length}
-use Rattle.std.specs.Prelude.{get_or, nat_eq, nat_lt}
-use Rattle.mm_spec.specs.Statement.{Statement}
+use Rattle.std.specs.Prelude.{get_or, nat_eq}
 use Rattle.mm_spec.specs.Derivation.{is_member}
-use Rattle.mm_spec.specs.Frame.{formula_at}
 use Rattle.mm_spec.specs.Rising.{IsRisingFrom}
 use Rattle.mm_frame.specs.declared.chains.Chains.{Chains}
-
--- pair i of a symbol and a `$d` has a symbol above x, and its `$d` has x
-abbrev pub has_lower : List Statement → List (ℕ × ℕ) → ℕ → ℕ → Bool
-has_lower db pairs x i =
-    nat_lt i (length pairs)
-    && (nat_lt x (get_or pairs i (0, 0)).0
-    && is_member (formula_at db (get_or pairs i (0, 0)).1) x)
 
 -- the links from link n on have these statements, in this order
 abbrev pub IsLinkChain : List (ℕ × ℕ) → ℕ → List ℕ → Type 0

@@ -6,3 +6,4 @@ pub mod Together
 pub mod Stretches
 pub mod Neighbours
 pub mod SymbolFacts
+pub mod Rows

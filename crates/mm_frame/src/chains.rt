@@ -1,14 +1,13 @@
 //! The `$d` statements of each symbol, found without a sort: a walk over the statements from the
 //! last to the first puts each `$d` in front of the chains of its symbols. So each chain is in
-//! ascending order. In the same way a walk over the pairs of a symbol and a `$d` finds those of
-//! each lower symbol of the `$d`.
+//! ascending order.
 
 ghost use Rattle.std.specs.Prelude.{◌≡◌, ◌≢◌, ◌<◌, ◌≤◌, ◌-◌, ◌++◌, ℕ, IfOk, OnOk};
 ghost use Rattle.std.specs.Prelude.{◌&&◌, All, List, length, map, get_or, nat_eq, nat_lt, true};
 ghost use Rattle.std.specs.Prelude.{false};
 ghost use Rattle.mm_spec.specs.Derivation.{is_member};
 ghost use Rattle.mm_spec.specs.Frame.{symbol_names};
-ghost use Rattle.mm_frame.specs.Chains.{AddsInFront, AreChains, AreLinked, IsChainOf, has_lower};
+ghost use Rattle.mm_frame.specs.Chains.{AddsInFront, AreChains, AreLinked, IsChainOf};
 ghost use Rattle.mm_database.specs.DisjointIndex.{is_disjoint_by_width, has_symbol_by_width};
 ghost use Rattle.mm_database.specs.Pairs.{has_pair, AreRising};
 
@@ -17,12 +16,12 @@ use mm_database::statements::Statements;
 use mm_outline::symbol::Sym;
 use std::alloc::{AllocError, Allocator};
 
-/// For each symbol numbers in ascending order, of `$d` statements or of pairs.
+/// For each symbol `$d` statements, in ascending order.
 pub(crate) struct Chains<A: Allocator> {
     /// For each symbol the number of its first link, or 0 if it has none.
     heads: Vec<usize, A>,
-    /// Each link is a statement, or the index of a pair, and the number of the next link of its
-    /// chain, which is 0 if there is none. The number of a link is its index plus 1.
+    /// Each link is a statement and the number of the next link of its chain, which is 0 if there
+    /// is none. The number of a link is its index plus 1.
     links: Vec<(u32, usize), A>,
 }
 
@@ -67,10 +66,9 @@ fn add_link<A: Allocator>(
     Ok(())
 }
 
-/// Puts the statement in front of the chain of each symbol below `end`.
+/// Puts the statement in front of the chain of each of these symbols.
 fn add_links<A: Allocator>(
     symbols: &[Sym],
-    end: u32,
     statement: u32,
     chains: &mut Chains<A>,
 ) -> Result<(), AllocError>
@@ -80,13 +78,10 @@ fn add_links<A: Allocator>(
         (length chains.new.heads.items ≡ length chains.old.heads.items) }
     ensures are_linked { OnOk result (AreLinked chains.new.heads.items chains.new.links.items) }
     ensures adds_in_front { OnOk result
-        (AddsInFront (λ x. nat_lt x end && is_member symbols.now x) statement chains.old
-        chains.new) }
+        (AddsInFront (λ x. is_member symbols.now x) statement chains.old chains.new) }
 {
     for symbol in symbols {
-        if symbol.number() < end {
-            add_link(*symbol, statement, chains)?;
-        }
+        add_link(*symbol, statement, chains)?;
     }
     Ok(())
 }
@@ -136,43 +131,8 @@ pub(crate) fn chains_of<A: Allocator + Copy>(
     while statement > 0 {
         statement -= 1;
         if is_disjoint_by_width(statements, statement, narrow) {
-            let end = statements.symbol_count();
-            add_links(statements.formula(statement), end, statement, &mut chains)?;
+            add_links(statements.formula(statement), statement, &mut chains)?;
         }
-    }
-    Ok(chains)
-}
-
-/// Returns for each symbol the pairs of a higher symbol and a `$d` that has both, by their indices.
-/// `by_symbol` are all pairs of a symbol and a narrow `$d` that has it. Fails only if out of
-/// memory, or if there are 2^32 pairs or more.
-pub(crate) fn lower_chains<A: Allocator + Copy>(
-    alloc: A,
-    statements: &Statements<A>,
-    by_symbol: &[(u32, u32)],
-) -> Result<Chains<A>, AllocError>
-    requires { (x j : ℕ) → has_pair by_symbol.now x j
-        ≡ has_symbol_by_width statements.now.list true x j }
-    ensures head_count_is { IfOk result
-        (λ c. length c.heads.items ≡ length (symbol_names statements.now.list)) }
-    ensures are_linked { IfOk result (λ c. AreLinked c.heads.items c.links.items) }
-    ensures are_chains { IfOk result
-        (λ c. AreChains (has_lower statements.now.list by_symbol.now) 0 c.heads.items
-        c.links.items) }
-{
-    let heads = vec![in alloc; 0; statements.symbol_count() as usize]?;
-    let mut chains = Chains {
-        heads,
-        links: Vec::new(alloc),
-    };
-    let mut index = by_symbol.len();
-    while index > 0 {
-        index -= 1;
-        let Ok(number) = u32::try_from(index) else {
-            return Err(AllocError);
-        };
-        let (symbol, statement) = by_symbol[index];
-        add_links(statements.formula(statement), symbol, number, &mut chains)?;
     }
     Ok(chains)
 }

@@ -8,6 +8,7 @@ pub mod active;
 pub mod chains;
 pub mod disjoint;
 pub mod disjoint_index;
+mod disjoint_rows;
 pub mod frames;
 pub mod hypotheses;
 mod neighbours;

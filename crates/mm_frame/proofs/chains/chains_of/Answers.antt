@@ -1,11 +1,9 @@
 use Rattle.std.proofs.Common.{◌≡◌, ◌∙◌, ◌+◌, ◌-◌, ◌<◌, ℕ, List, length, get_or, refl, sym, ap}
-use Rattle.std.proofs.Common.{arith, replicate, nat_le, nat_lt, nat_eq, ◌&&◌, ◌||◌}
+use Rattle.std.proofs.Common.{arith, replicate}
 use Rattle.std.proofs.lemmas.List.{length-replicate, get_or-replicate}
 use Rattle.mm_frame.proofs.ChainsLaw.{no_chains_at_start, no_links_are_linked, has_symbol_lt_length}
-use Rattle.mm_frame.proofs.ChainsLaw.{chains_for_equal_tests, symbol_lt_symbol_count, members_below}
+use Rattle.mm_frame.proofs.ChainsLaw.{chains_for_equal_tests, symbol_lt_symbol_count}
 use Rattle.mm_frame.proofs.ChainsLaw.{has_symbol_with_disjoint, has_symbol_without_disjoint}
-use Rattle.mm_spec.specs.Derivation.{is_member}
-use Rattle.mm_spec.specs.Frame.{symbol_names}
 use Rattle.mm_database.specs.DisjointIndex.{has_symbol_by_width}
 use Rattle.mm_frame.proofs.chains.chains_of.Goals as goal
 
@@ -45,13 +43,7 @@ loop-statement-preserved-in-Continue-branch-2 g c =
       linked = c.in_ok-add_links.ensures.are_linked;
       chains =
           chains_for_equal_tests _ _ (statement - 1) (statement - 1) _ _ (omega arith)
-          (λ x j. ap (λ b. (nat_le statement j && has_symbol_by_width db c.args.narrow x j)
-          || (b && nat_eq j (statement - 1)))
-          (ap (λ n. nat_lt x n && is_member c.formula.result.now x)
-          c.symbol_count-end.ensures.count_is
-          ∙ members_below (length (symbol_names db)) x c.formula.result.now
-          c.formula.ensures.symbols_lt_count)
-          ∙ has_symbol_with_disjoint db c.args.narrow (statement - 1) x j statement
+          (λ x j. has_symbol_with_disjoint db c.args.narrow (statement - 1) x j statement
           c.formula.result.now
           statement_is_next
           c.formula.ensures.formula (sym c.is_disjoint_by_width.ensures
