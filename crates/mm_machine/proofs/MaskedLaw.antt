@@ -122,10 +122,12 @@ module _ {nodes : List (List ℕ)} {stack : List Entry} {marks : List ℕ} {mark
   pushed_keeping r o' nodes' stack' below keep m symbols f h1 h2 h3 h4 h5 h6 h7 h8 h9 h10 h11 h12
       h13 h14 = record {
         of_marked =
-            pushed_masked keeping.of_marked r o' nodes' stack' below keep m symbols f h1 h2 h3 h4 h5 h6
+            pushed_masked keeping.of_marked r o' nodes' stack' below keep m symbols f h1 h2 h3 h4
+            h5 h6
             h7 h8 h9 h10 h11 h12 h13 h14;
         of_long =
-            pushed_masked keeping.of_long r o' nodes' stack' below keep m symbols f h1 h2 h3 h4 h5 h6
+            pushed_masked keeping.of_long r o' nodes' stack' below keep m symbols f h1 h2 h3 h4 h5
+            h6
             h7 h8 h9 h10 h11 h12 h13 h14;
       }
 

@@ -74,8 +74,8 @@ impl<A: Allocator> DistinctVariables<A> {
         empty(&mut self.columns);
     }
 
-    /// Lists the pairs of bodies that pairs of premises have, and the variables of these bodies. The
-    /// symbols of each body are listed in `bodies` first.
+    /// Lists the pairs of bodies that pairs of premises have, and the variables of these bodies.
+    /// The symbols of each body are listed in `bodies` first.
     pub fn collect(
         &mut self,
         database: &Database<A>,

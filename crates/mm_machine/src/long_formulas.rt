@@ -38,9 +38,8 @@ fn is_made_of<A: Allocator>(nodes: &Nodes<A>, entry: Entry, formula: &[Sym]) -> 
     }
 }
 
-/// The index of an entry whose formula was made of these symbols. All are gone through: a text has
-/// fewer long formulas than it has symbols, and different ones mostly differ in their lengths or
-/// first symbols.
+/// The index of an entry whose formula was made of these symbols. All are gone through, so there
+/// have to be few.
 pub fn find_formula<A: Allocator>(
     nodes: &Nodes<A>,
     entries: &[Entry],

@@ -36,6 +36,9 @@ const MARK_SLOTS: usize = 4_096;
 /// A formula of so many symbols that is pushed again isn't made again.
 const LONG_FORMULA: usize = 64;
 
+/// So many long formulas of a proof are kept at most. Each that is pushed is compared with them.
+const MOST_LONG_FORMULAS: usize = 8;
+
 /// The entries, the formulas of the marked steps so far, and the long formulas that were pushed. A
 /// node stays as long as a marked step, a long formula, the stack or the step that is performed
 /// needs it, and all nodes before it stay as well.
@@ -47,7 +50,7 @@ pub struct Machine<A: Allocator> {
     marks: Vec<usize, A>,
     /// For each of these steps the entry with which it ended.
     marked: Vec<Entry, A>,
-    /// The entries of the long formulas that were pushed.
+    /// The entries of the first long formulas that were pushed.
     long: Vec<Entry, A>,
     /// How many nodes the marked entries and those of long formulas need.
     floor: usize,
@@ -201,6 +204,9 @@ impl<A: Allocator> Machine<A> {
             }
             None => {
                 self.push_new(formula)?;
+                if self.long.len() >= MOST_LONG_FORMULAS {
+                    return Ok(());
+                }
                 self.keep_top()
             }
         }

@@ -30,5 +30,6 @@ returns-clause-is_applied g c =
     (is_applied_if_kept db t a (machine_state (entry_formulas i.nodes i.stack.items) i.marks.items
     (entry_formulas i.nodes i.marked.items) i.owners.variable_flags) state_after applying.result
     applying.ensures.entries_are applying.ensures.has_entry applying.ensures.refusal_is_right refl
-    (marked_formulas_stay c.self.invariant.of_marked.is_machine applying.new.nodes applying.new.stack.items
+    (marked_formulas_stay c.self.invariant.of_marked.is_machine applying.new.nodes
+    applying.new.stack.items
     applying.ensures.is_stack applying.ensures.nodes_are_kept) refl)

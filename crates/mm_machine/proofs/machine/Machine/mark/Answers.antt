@@ -29,7 +29,8 @@ invariant_of-self-in_err-push-2 g c =
       of_marked = record {
         is_machine =
             marked_machine
-            c.self.invariant.of_marked.is_machine n c.max-self-inside.result m e (omega (arith, count_is)) m_is
+            c.self.invariant.of_marked.is_machine n c.max-self-inside.result m e
+            (omega (arith, count_is)) m_is
             c.for_itself-entry.ensures.is_entry c.for_itself-entry.ensures.formula_stays
             c.max-self-inside.ensures;
         has_masks =

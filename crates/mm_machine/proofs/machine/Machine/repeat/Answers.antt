@@ -23,11 +23,13 @@ invariant_of-self-2 g c =
     rw c.in_ok-push.ensures.items
     (restacked_keeping c.self.invariant _ (record {
       is_machine =
-          repeated_machine c.self.invariant.of_marked.is_machine index m c.for_top-entry.result index_lt
+          repeated_machine c.self.invariant.of_marked.is_machine index m c.for_top-entry.result
+          index_lt
           m_is c.for_top-entry.ensures.is_entry c.for_top-entry.ensures.formula_stays
           c.for_top-entry.ensures.needs_all;
       has_masks =
-          masks_with_repeated c.self.invariant.of_marked.has_masks index m c.for_top-entry.result index_lt
+          masks_with_repeated c.self.invariant.of_marked.has_masks index m c.for_top-entry.result
+          index_lt
           m_is
           c.for_top-entry.ensures.formula_stays c.for_top-entry.ensures.mask_stays;
     }))
