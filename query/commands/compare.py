@@ -140,7 +140,7 @@ def compared(context: Context, arguments: argparse.Namespace) -> Comparison:
     if words == ("-", "-"):
         raise NoAnswer("only one of two databases can be the standard input")
     old, new = (context.database(word, options) for word in words)
-    return side_by_side(old, new, is_reported=True)
+    return side_by_side(old, new)
 
 
 def why_empty(arguments: argparse.Namespace, comparison: Comparison, otherwise: str) -> str:

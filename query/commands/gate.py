@@ -155,7 +155,7 @@ def found_in(request: Request, context: Context, tells_all: bool) -> Iterator[Fi
         return
     old, new = (Database(each, OPTIONS, context.uses_cache) for each in (request.old, request.new))
     try:
-        comparison = side_by_side(old, new, is_reported=False)
+        comparison = side_by_side(old, new)
     except Refused as refused:
         if refused.source is not request.new:
             raise

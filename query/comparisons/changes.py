@@ -9,14 +9,12 @@ from __future__ import annotations
 
 from collections import Counter
 from collections.abc import Iterable, Iterator
-from contextlib import suppress
 from dataclasses import dataclass
 from functools import cached_property
 
-from query.answers.errors import NoAnswer
 from query.citations.graph import Graph
 from query.citations.marks import columns_of, mask
-from query.comparisons.differences import Differences, coming
+from query.comparisons.differences import Differences, compared
 from query.comparisons.pairing import (
     ANOTHER_ORDER,
     Cites,
@@ -25,7 +23,7 @@ from query.comparisons.pairing import (
     pairing_of,
     statement_of,
 )
-from query.comparisons.two_texts import NewText, OldText
+from query.comparisons.two_texts import OldText
 from query.platform import progress
 from query.reports.database import Database, Dependence
 from query.texts.assertions import Assertion, Damaged
@@ -64,19 +62,13 @@ class Side:
         return known
 
 
-def side_by_side(old: Database, new: Database, *, is_reported: bool) -> Comparison:
-    """Both databases, compared by one run of the program. Where NEW's report will be asked for in
-    any case, another run makes it meanwhile. Refused where one of them is refused: if both are,
-    OLD."""
+def side_by_side(old: Database, new: Database) -> Comparison:
+    """Both databases, compared by one run of the program. Refused where one of them is refused: if
+    both are, OLD."""
     for each in (old, new):
         each.see_text()
-    with coming(old, new) as result:
-        if is_reported:
-            with suppress(NoAnswer):  # what is wrong is told by the other run, or comes again
-                _ = new.content
-        progress.now(f"comparing {old.name} and {new.name}")
-        differences = result()
-    comparison = Comparison(Side(old), Side(new), differences)
+    progress.now(f"comparing {old.name} and {new.name}")
+    comparison = Comparison(Side(old), Side(new), compared(old, new))
     comparison.see_axioms()
     return comparison
 
@@ -110,10 +102,10 @@ class Comparison:
         """A database beside itself."""
         return Comparison(side, side, Differences())
 
-    @cached_property
-    def text(self) -> NewText:
+    @property
+    def text(self) -> Text:
         """The text of NEW."""
-        return NewText(self.new.database.data(), self.differences)
+        return self.new.database.text
 
     @cached_property
     def old_text(self) -> OldText:

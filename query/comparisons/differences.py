@@ -1,5 +1,5 @@
 """What the program says of two databases: the four sections that `mmdepend --against OLD NEW`
-writes.
+writes, and with `--and-report` the report on NEW behind them.
 
 docs/REPORT.md says what each line means. These bytes are proved, so nothing of them is computed
 again. Still a line that hasn't its form is never taken for an answer.
@@ -8,27 +8,27 @@ again. Still a line that hasn't its form is never taken for an answer.
 from __future__ import annotations
 
 import re
-from collections.abc import Callable, Iterator
-from contextlib import contextmanager
 from dataclasses import dataclass, field
-from functools import partial
 
 from query.answers.errors import NoAnswer
 from query.platform import cache
 from query.program import mmdepend
 from query.program.handover import handed
-from query.reports.database import Database, result_key
-from query.reports.of_program import ascii_text
+from query.reports.database import REPORTED, Database, result_key
+from query.reports.of_program import ascii_text, statements_of
 from query.texts.assertions import LABEL, Assertion, Damaged, assertions_of
 
-FORM = "differences 3"
+FORM = "differences 4"
 """Counts the forms in which they are kept."""
 HEADINGS = (b"mmdepend-differences 1\n", b"new\n", b"gone\n", b"gained\n", b"lost\n", b"end\n")
+LAST = b"\nend\n"
+"""With what they end: no line within a section has no colon."""
 HEADING = re.compile(rb"^[^:\n]*+\n", re.MULTILINE)
 """A line without a colon, which each line of a section has."""
 LABELS = re.compile(rf"{LABEL}(?: {LABEL})*")
-PART, TAKEN = "differences", "taken"
-"""Under which names they are kept, and what the program took for them."""
+PART, TAKEN, TOLD = "differences", "taken", "statements"
+"""Under which names they are kept, what the program took for them, and the lines that tell the
+assertions of NEW."""
 
 Taken = tuple[float, int]
 """Seconds of the processor, and bytes of memory."""
@@ -93,34 +93,43 @@ def shifts_of(section: bytes) -> dict[str, str]:
     return found
 
 
-@contextmanager
-def coming(old: Database, new: Database) -> Iterator[Callable[[], Differences]]:
-    """Has the program compare two databases, which were asked for with the same options, unless its
-    answer was kept. The call waits for the answer. Refused where a database is refused: if both
-    are, OLD."""
+def compared(old: Database, new: Database) -> Differences:
+    """What the program says of two databases, which were asked for with the same options, unless
+    that was kept. Where NEW's report isn't known, the same run writes it. Refused where a database
+    is refused: if both are, OLD."""
     options, texts = new.options, (old.source.data, new.source.data)
     key = result_key(FORM, old.sum, new.sum, new.program.sum, options.essential, options.open)
     kept = cache.load(key) if new.uses_cache else None
     if kept is not None:
-        yield partial(differences_of, kept[PART], *texts, taken_of(kept[TAKEN]))
-        return
+        new.told = kept[TOLD]
+        return differences_of(kept[PART], *texts, taken_of(kept[TAKEN]))
+    new.known = new.known or new.kept
+    said, report, taken = said_of(old, new)
+    try:
+        found = differences_of(said, *texts, taken)
+        if new.known is None:
+            new.given, new.told = report, statements_of(report)
+    except Damaged as why:
+        raise NoAnswer(f"{old.name} and {new.name}: {why}") from None
+    if new.uses_cache:
+        told = new.told or new.content.statements
+        parts = {PART: said, TAKEN: " ".join(map(str, taken or ())).encode(), TOLD: told}
+        cache.store(key, parts)
+    return found
 
-    def result() -> Differences:
-        said = mmdepend.judged_differences(old.source, new.source, running)
-        try:
-            found = differences_of(said, *texts, running.taken)
-        except Damaged as why:
-            raise NoAnswer(f"{old.name} and {new.name}: {why}") from None
-        if new.uses_cache:
-            taken = " ".join(map(str, running.taken or ()))
-            cache.store(key, {PART: said, TAKEN: taken.encode()})
-        return found
 
+def said_of(old: Database, new: Database) -> tuple[bytes, bytes, Taken | None]:
+    """What the program writes of two databases, and behind that of NEW, unless its report is known;
+    and what it took."""
     with handed([old.source, new.source]) as (names, passed):
-        words = ["--essential"] * options.essential + ["--open"] * options.open
+        words = ["--essential"] * new.options.essential + ["--open"] * new.options.open
+        words += [] if new.known else ["--and-report", *REPORTED]
         words += [f"--against={names[0]}", names[1]]
-        running = new.program.running(words, None, True, sum(map(len, texts)), passed)
+        size = len(old.source.data) + len(new.source.data)
+        running = new.program.running(words, None, True, size, passed)
         try:
-            yield result
+            said = mmdepend.judged_differences(old.source, new.source, running)
         finally:
             running.stop()
+    end = said.find(LAST) + len(LAST)
+    return said[:end], said[end:], running.taken

@@ -1,10 +1,12 @@
-"""Where the assertions of two texts stand that the program accepted, and what of both isn't alike.
+"""Where the assertions of OLD stand, and what of it and of NEW isn't alike. The program accepted
+both texts, and tells where the assertions of NEW stand.
 
-No report is asked for that. No symbol has a `$`, so each `$a` and `$p` that isn't in a comment is
-the keyword of an assertion, whose label is before it. Of OLD only what isn't alike is read so.
-Where the texts begin alike, its assertions stand as those of NEW do. So they do where the texts end
-alike: if a comment were open in one of them alone, the next `$(` or `$)` would be a fault of the
-one or the other, and so would be the next keyword if a statement were.
+No report on OLD is asked for that. Where the texts begin alike, its assertions stand as those of
+NEW do. So they do where the texts end alike: if a comment were open in one of them alone, the next
+`$(` or `$)` would be a fault of the one or the other, and so would be the next keyword if a
+statement were. Only what isn't alike is searched for assertions. No symbol has a `$`, so each `$a`
+and `$p` that isn't in a comment is the keyword of one, whose label is before it. What it says is
+told by the program, of OLD or of NEW.
 """
 
 from __future__ import annotations
@@ -51,70 +53,46 @@ def end_of_statement(data: bytes, place: int) -> int:
     return match.end()
 
 
-class FoundText(Text):
-    """A text, of which the program tells some assertions, by their labels. What others say isn't
-    known."""
-
-    def __init__(self, data: bytes, told: dict[str, Assertion]) -> None:
-        super().__init__(data, b"")
-        self.told = told
-
-    def read(self, data: bytes, start: int = 0) -> None:
-        """Adds the assertions of a part of the text, which begins at a place."""
-        for label, letter, place, end in places(data):
-            self.add(label, letter, start + place, start + end)
-
-    def add(self, label: str, letter: str, place: int, end: int) -> None:
-        """Adds an assertion that stands there. Damaged where the program tells another one."""
-        said, known = "", self.told.get(label)
-        if known is not None:
-            if (known.kind, known.place, known.end) != (letter, place, end):
-                raise Damaged
-            letter, said = known.letter, known.said
-        self.assertions.append(Assertion(label, letter, place, end, said, len(self.assertions)))
-
-    def see_all(self, count: int) -> None:
-        """Damaged where there aren't so many assertions, or those that the program tells aren't
-        among them."""
-        if not len(self.assertions) == len(self.by_label) == count:
-            raise Damaged
-        if not self.told.keys() <= self.by_label.keys():
-            raise Damaged
-
-
-class NewText(FoundText):
-    """The text of NEW."""
-
-    def __init__(self, data: bytes, differences: Differences) -> None:
-        super().__init__(data, differences.new)
-        self.read(data)
-        self.see_all(len(self.assertions))
-
-
-class OldText(FoundText):
+class OldText(Text):
     """The text of OLD beside that of NEW. Of both, `between` is what isn't alike, from the end of
     one assertion to the label of another, and `touched` are the assertions whose statement is
     another one there, or what stands before it, such as a comment."""
 
-    def __init__(self, data: bytes, new: NewText, differences: Differences) -> None:
-        super().__init__(data, differences.gone)
+    def __init__(self, data: bytes, new: Text, differences: Differences) -> None:
+        super().__init__(data, b"")
+        self.new, self.gone = new, differences.gone
         first, after = alike(data, new)
         start = new.assertions[first - 1].end if first else 0
         stop = new.assertions[after].place if after < len(new.assertions) else len(new.data)
         shift = len(data) - len(new.data)
         self.between = (data[start : stop + shift], new.data[start:stop])
         self.assertions = new.assertions[:first]
-        self.read(self.between[0], start)
+        for label, letter, place, end in places(self.between[0]):
+            self.add(label, letter, start + place, start + end)
         last = len(self.assertions)
         for one in new.assertions[after:]:
             self.add(one.label, one.kind, one.place + shift, one.end + shift)
         inside = (self.assertions[first : last + 1], new.assertions[first : after + 1])
         self.touched = (lacking_in(new, self, inside[0]), lacking_in(self, new, inside[1]))
-        self.see_all(len(new.assertions) - len(differences.new) + len(differences.gone))
+        count = len(new.assertions) - len(differences.new) + len(differences.gone)
+        if not len(self.assertions) == len(self.by_label) == count:
+            raise Damaged
         lacking = differences.new.keys() - differences.gone.keys()
         is_wrong = any(new.by_label[label].number < first for label in differences.new)
-        if is_wrong or not lacking.isdisjoint(self.by_label):
+        if is_wrong or not lacking.isdisjoint(self.by_label) or self.gone.keys() - self.by_label:
             raise Damaged
+
+    def add(self, label: str, letter: str, place: int, end: int) -> None:
+        """Adds an assertion that stands there: one that the program tells, or else one that NEW has
+        too. Damaged where the program tells another one."""
+        told = self.gone.get(label)
+        known = self.new.find(label) if told is None else told
+        if known is None or known.kind != letter:
+            raise Damaged
+        if told is not None and (told.place, told.end) != (place, end):
+            raise Damaged
+        number = len(self.assertions)
+        self.assertions.append(Assertion(label, known.letter, place, end, known.said, number))
 
 
 def stretch(text: Text, one: Assertion) -> bytes:

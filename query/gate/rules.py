@@ -15,7 +15,7 @@ from query.answers.excerpts import SHOWN_FORMULA, cut
 from query.citations.crossing import across_mathboxes, citations
 from query.comparisons.changed_statements import change_of
 from query.comparisons.changes import Comparison, Side
-from query.comparisons.two_texts import NewText, OldText, words_of_proof
+from query.comparisons.two_texts import OldText, words_of_proof
 from query.gate.arrivals import Arrivals
 from query.gate.config import LABEL, RULES, Claim, Config
 from query.gate.finding import Finding
@@ -62,7 +62,7 @@ class Case:
         return self.comparison.old_text
 
     @property
-    def text(self) -> NewText:
+    def text(self) -> Text:
         """The text of NEW."""
         return self.comparison.text
 
@@ -88,13 +88,8 @@ class Case:
 
     @cached_property
     def open(self) -> dict[str, None]:
-        """The theorems of NEW that are left open, in file order. Its report isn't asked where no
-        statement has the sign for that."""
-        text = self.text
-        if all(text.data.find(b"?", one.place, one.end) < 0 for one in text.assertions):
-            return {}
-        told = self.new.database.text.assertions
-        return dict.fromkeys(one.label for one in told if one.is_open)
+        """The theorems of NEW that are left open, in file order."""
+        return dict.fromkeys(one.label for one in self.text.assertions if one.is_open)
 
     @cached_property
     def may_arrive(self) -> bool:

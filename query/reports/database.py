@@ -27,6 +27,8 @@ if TYPE_CHECKING:
 
 # Counts the forms in which results are kept. A change of what they hold has to change it.
 FORM = 2
+REPORTED = ("--form=2", SECTIONS)
+"""The options for the report that is read whole."""
 NOTHING = "has neither axioms nor theorems"
 NO_CITATIONS = "the report has no section 'citations'"
 
@@ -148,6 +150,10 @@ class Database:
     options: Options
     uses_cache: bool
     known: ReportContent | None = None
+    given: bytes | None = None
+    """The report on it, which a comparison had written; it is read where it is asked for."""
+    told: bytes | None = None
+    """The lines of its section `statements`, where these alone are known."""
 
     @classmethod
     def opened(cls, word: str, options: Options, uses_cache: bool) -> "Database":
@@ -185,7 +191,7 @@ class Database:
         # It takes 12 milliseconds, and many answers need no text.
         from query.texts.text import Text
 
-        return Text(self.data(), self.content.statements)
+        return Text(self.data(), self.content.statements if self.told is None else self.told)
 
     def assertion(self, label: str) -> Assertion:
         """The assertion of a label. NoAnswer where there is none."""
@@ -234,7 +240,7 @@ class Database:
 
     def of_program(self) -> ReportContent:
         """What the program says."""
-        data = self.said("--form=2", SECTIONS)
+        data = self.said(*REPORTED) if self.given is None else self.given
         progress.now(f"reading the report of {self.name}")
         try:
             found = report_content(data)

@@ -199,5 +199,7 @@ def head_counts(data: bytes) -> tuple[int, int]:
 
 
 def statements_of(data: bytes) -> bytes:
-    """The lines of the section `statements`, of a report that has no other."""
-    return ProgramReport(data).last()
+    """The lines of the section `statements` of a report, whatever others it has."""
+    report = ProgramReport(data)
+    report.place = data.find(b"\nstatements\n", report.place - 1) + 1
+    return report.last()

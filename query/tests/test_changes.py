@@ -15,7 +15,6 @@ import tempfile
 from collections import Counter
 from collections.abc import Callable, Iterator, Sequence
 from dataclasses import replace
-from functools import partial
 from importlib.machinery import SourceFileLoader
 from importlib.util import module_from_spec, spec_from_loader
 from pathlib import Path
@@ -35,7 +34,7 @@ PAIRS = 40
 OPTIONS = (ALL, Options(), replace(ALL, open=True), replace(ALL, essential=True))
 
 Ways = Sequence[Callable[[Database, Database], Comparison | old_changes.Comparison]]
-WAYS: Ways = (partial(side_by_side, is_reported=True), old_changes.side_by_side)
+WAYS: Ways = (side_by_side, old_changes.side_by_side)
 
 
 def pairs_by_chance(chance: random.Random, count: int) -> list[tuple[str, str]]:

@@ -5,7 +5,7 @@ import re
 import subprocess
 
 from query.comparisons.differences import Differences, differences_of
-from query.comparisons.two_texts import NewText, OldText
+from query.comparisons.two_texts import OldText
 from query.tests.world import SMALL, World, built_program, database_text
 from query.texts.assertions import Damaged
 from query.texts.text import Text
@@ -118,11 +118,13 @@ class Read(World):
             self.damaged(self.said.replace(before, after, 1))
 
     def test_a_program_that_ends_too_early(self) -> None:
-        """Its answer is none, wherever it ends and with whatever status."""
+        """Its answer is none, wherever it ends and with whatever status: within the differences,
+        between them and the report, and within that."""
         self.write("old.mm", SMALL)
         self.write("new.mm", NEWER)
         real = built_program()
-        for end in (0, 23, 40, len(self.said) - 4, len(self.said) - 1):
+        size = len(self.said)
+        for end in (0, 23, 40, size - 4, size - 1, size, size + 30, size + 300):
             for way in (f'{real} "$@" | head -c {end}', f'{real} "$@" | head -c {end}; exit 1'):
                 self.write("cuts", "#!/bin/sh\n" + WITH_AGAINST.format(way, real))
                 (self.folder / "cuts").chmod(0o755)
@@ -200,13 +202,13 @@ class Read(World):
 def standing(text: Text) -> list[tuple[str, str, int, int, int, str]]:
     """Of each assertion what it is, where it stands, and the comment before it."""
     return [
-        (one.label, one.kind, one.place, one.end, one.number, text.comment(one))
+        (one.label, one.letter, one.place, one.end, one.number, text.comment(one))
         for one in text.assertions
     ]
 
 
 class Standing(World):
-    """Where the assertions of both stand, beside what their own reports say."""
+    """Where the assertions of OLD stand, beside what its own report says."""
 
     COMMENTS = (
         *("$( a comment $)", "$( x $p |- p $= ? $. $)", "$( $a $)", "$( (New usage) $. ${ $)"),
@@ -252,21 +254,17 @@ class Standing(World):
                 continue
             tried += 1
             differences = differences_of(said, old.encode(), new.encode())
-            after = NewText(new.encode(), differences)
-            before = OldText(old.encode(), after, differences)
-            for found, data in ((before, old), (after, new)):
-                wanted = database_text(data.encode())
-                self.assertEqual(standing(found), standing(wanted), f"seed {seed}")
+            before = OldText(old.encode(), database_text(new.encode()), differences)
+            wanted = database_text(old.encode())
+            self.assertEqual(standing(before), standing(wanted), f"seed {seed}")
         self.assertGreater(tried, 40)
 
     def test_an_answer_that_does_not_fit(self) -> None:
         """Of other texts it isn't taken."""
         said = said_of(SMALL, NEWER, str(self.folder))
         right = differences_of(said, SMALL.encode(), NEWER.encode())
-        text = NewText(NEWER.encode(), right)
+        text = database_text(NEWER.encode())
         self.assertEqual(len(OldText(SMALL.encode(), text, right).assertions), 7)
-        with self.assertRaises(Damaged):
-            NewText(SMALL.encode(), right)
         for wrong in (
             Differences(),
             Differences(right.new),
