@@ -93,7 +93,8 @@ class Cache(World):
         words = ("compare", "small.mm", "small.mm")
         answer = self.answers(*words, MMDEPEND=counted)
         found = (self.runs(), len(self.files()))
-        self.assertEqual(found, (2, 2))
+        # One run compares both and reports on the second.
+        self.assertEqual(found, (1, 2))
         self.assertEqual(self.answers(*words, MMDEPEND=counted), answer)
         self.assertEqual((self.runs(), len(self.files())), found)
 
