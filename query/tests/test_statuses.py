@@ -126,10 +126,9 @@ class Statuses(World):
                     self.assertEqual(done.status, whole.status)
                 kept = [each.stat().st_size for each in (self.cache / "mmquery").glob("*")]
                 self.assertTrue(all(each <= size for each in kept), f"{words}, {size}")
-                # That `spare` found nothing is kept in less.
-                self.assertTrue(
-                    size == LIMITS[-1] or not kept or words[0] == "spare", f"{words}, {size}"
-                )
+                # That `spare` or `repeats` found nothing is kept in less.
+                is_small = words[0] in {"spare", "repeats"}
+                self.assertTrue(size == LIMITS[-1] or not kept or is_small, f"{words}, {size}")
 
     def test_the_answer_goes_to_a_file_that_may_not_grow(self) -> None:
         for words in self.all_words():
