@@ -1,7 +1,7 @@
 -- Where the guess for a name is found, and what stays when a guess is put somewhere.
-use Rattle.std.proofs.lemmas.Option.{same_Some, slice_get-map, slice_get-get_or}
+use Rattle.std.proofs.lemmas.Option.{same_Some}
 use Rattle.std.proofs.lemmas.Bool.{false_from_ne_true, cases_lt, cases_order}
-use Rattle.std.proofs.Common.{rules, ◌≡◌, ◌≢◌, ◌∙◌, ◌+◌, ◌<◌, ◌≤◌, ◌-◌, ◌∷◌, [], ℕ, zero, suc, List}
+use Rattle.std.proofs.Common.{◌≡◌, ◌≢◌, ◌∙◌, ◌+◌, ◌<◌, ◌≤◌, ◌-◌, ◌∷◌, [], ℕ, zero, suc, List}
 use Rattle.std.proofs.Common.{true, false, Some, None, length, slice_get, set, inl, inr, refl, sym}
 use Rattle.std.proofs.Common.{ap, arith, length-set, is_some, bytes_eq, subst, ◌++◌, Bool}
 use Rattle.std.proofs.Common.{if◌then◌else◌}
@@ -49,11 +49,25 @@ one_more_taken guesses first p are_taken p_is_taken q first_le_q q_le_p q_is_fre
           sym (ap (slice_get guesses) q_is_p) ∙ q_is_free)
     ]
 
+-- the index is guessed before a free one of the places from `first` on
+abbrev IsGuessedFrom : List ℕ → ℕ → ℕ → Type 0
+IsGuessedFrom guesses i first =
+    (k : ℕ) → k < window → slice_get guesses (first + k) ≡ Some no_guess
+    → (m : ℕ) × (m < k) × (i < no_guess) × (slice_get guesses (first + m) ≡ Some i)
+
+-- the same, where a free place gets a guess
+guessed_from_in_filled_place : (guesses : List ℕ) (p v first i : ℕ)
+    → slice_get guesses p ≡ Some no_guess → IsGuessedFrom guesses i first
+    → IsGuessedFrom (set guesses p v) i first
+guessed_from_in_filled_place guesses p v first i p_is_free is_guessed =
+    grind (arith, nat_tests, set, length-set, other_element, slice_get, set_element, same_Some)
+
 -- where a free place gets a guess, the names are guessed as before
 pub guessed_in_filled_place : (guesses : List ℕ) (p v : ℕ) (w : Bytes) (i : ℕ)
     → slice_get guesses p ≡ Some no_guess → IsGuessed guesses w i → IsGuessed (set guesses p v) w i
 guessed_in_filled_place guesses p v w i p_is_free is_guessed =
-    grind (arith, nat_tests, set, length-set, other_element, slice_get, set_element, same_Some)
+    rw (length-set) (guessed_from_in_filled_place guesses p v (first_place w (length guesses)) i
+    p_is_free is_guessed)
 
 -- a guess that was put into the first free place from `first` on
 first_free_filled : (guesses : List ℕ) (p v first k : ℕ) → v < no_guess → first ≤ p
@@ -150,12 +164,6 @@ one_more_other ns guesses w first p have_others p_has_other q i first_le_q q_le_
 isnt_in : (ns : List Bytes) (w : Bytes) → ((i : ℕ) → slice_get ns i ≢ Some w) → is_in w ns ≡ false
 isnt_in ns w no_name_is_w = false_from_ne_true (is_in w ns)
     (λ w_in_ns. no_name_is_w (index_of w ns) (name_at_index_of ns w w_in_ns))
-
--- the index is guessed before a free one of the places from `first` on
-abbrev IsGuessedFrom : List ℕ → ℕ → ℕ → Type 0
-IsGuessedFrom guesses i first =
-    (k : ℕ) → k < window → slice_get guesses (first + k) ≡ Some no_guess
-    → (m : ℕ) × (m < k) × (i < no_guess) × (slice_get guesses (first + m) ≡ Some i)
 
 -- a guess before a free place
 guess_isnt_right : (ns : List Bytes) (guesses : List ℕ) (w : Bytes) (first p i : ℕ)

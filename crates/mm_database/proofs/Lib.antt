@@ -16,6 +16,7 @@
 -- statement. `labels_counted` and others (`OpenAsAxiomsLaw.antt`) transfer what is known of the
 -- statements that were read to these as they count. `typecode_is_compared` (`TypecodeLaw.antt`)
 -- says what `has_chosen_typecode` compares.
+pub mod EndsLaw
 pub mod SymbolsLaw
 pub mod TypecodeLaw
 pub mod NamesLaw

@@ -2,7 +2,7 @@
 use Rattle.std.proofs.lemmas.Bool.{false_from_ne_true, or_parts}
 use Rattle.std.proofs.lemmas.Option.{same_Some, slice_get_past, none-some}
 use Rattle.std.proofs.Common.{rules, ◌≡◌, ◌≤◌, ℕ, zero, suc, Bool, true, false, ◌||◌, ◌&&◌, not}
-use Rattle.std.proofs.Common.{List, nat_lt, None, cond, if◌then◌else◌, ◌+◌}
+use Rattle.std.proofs.Common.{List, nat_lt, None, cond, ◌+◌}
 use Rattle.std.proofs.Common.{[], ◌∷◌, ◌++◌, length, slice_get, Some, bytes_eq, refl, sym, ap, ap₂}
 use Rattle.std.proofs.Common.{◌∙◌, arith, true≢false, map}
 use Rattle.std.proofs.lemmas.Grind.{common_steps}

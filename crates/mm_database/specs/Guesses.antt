@@ -1,6 +1,7 @@
 -- Where a map of names has its guesses of the names' indices.
-use Rattle.std.specs.Prelude.{◌≡◌, ℕ, ◌+◌, ◌-◌, ◌*◌, ◌/◌, ◌%◌, ◌^◌, ◌<◌, nat_eq, nat_le, nat_lt}
+use Rattle.std.specs.Prelude.{◌≡◌, ℕ, ◌+◌, ◌-◌, ◌*◌, ◌/◌, ◌%◌, ◌^◌, ◌<◌, nat_eq}
 use Rattle.std.specs.Prelude.{List, length, Some, slice_get, slice_index, if◌then◌else◌}
+use Rattle.mm_database.specs.Ends.{ends_of}
 
 -- stands in a place without a guess
 abbrev pub no_guess : ℕ
@@ -10,26 +11,15 @@ no_guess = 4294967295
 abbrev pub window : ℕ
 window = 4
 
--- the four bytes of a word from i on as a number, the lowest first
-abbrev pub number_at : List ℕ → ℕ → ℕ
-number_at w i =
-    slice_index w i + slice_index w (i + 1) * 256 + slice_index w (i + 2) * 65536
-    + slice_index w (i + 3) * 16777216
-
--- the first and the last four bytes of a word, or of a shorter word the first and the last byte
-abbrev pub ends_of : List ℕ → ℕ × ℕ
-ends_of w =
-    if nat_le 4 (length w) then (number_at w 0, number_at w (length w - 4)) else
-    (if nat_lt 0 (length w) then (slice_index w 0, slice_index w (length w - 1)) else (0, 0))
-
 -- The first place of the guess for a name among so many. Which one it is decides only how fast a
 -- name is found.
 abbrev pub first_place : List ℕ → ℕ → ℕ
 first_place w count =
     if nat_eq (length w) 1 then slice_index w 0 else
     (let ends = ends_of w in
-    256 + (((ends.0 * 2654435761 % 2 ^ 32 + ends.1 * 2246822507 % 2 ^ 32) % 2 ^ 32
-    + length w % 2 ^ 32 * 668265263 % 2 ^ 32) % 2 ^ 32 * (count - 256)) % 2 ^ 64 / 2 ^ 32)
+    256 + (((ends.0 * 11400714785074694791 % 2 ^ 64 + ends.1 * 14029467366897019727 % 2 ^ 64)
+    % 2 ^ 64 + length w * 1609587929392839161 % 2 ^ 64) % 2 ^ 64 / 2 ^ 32 * (count - 256)) % 2 ^ 64
+    / 2 ^ 32)
 
 -- before a free place of a name's guess stands the guess that is its index
 abbrev pub IsGuessed : List ℕ → List ℕ → ℕ → Type 0

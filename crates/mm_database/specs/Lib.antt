@@ -1,6 +1,7 @@
 pub use Rattle.mm_outline.specs.Blocks
 pub use Rattle.mm_outline.specs.Parts
 pub use Rattle.mm_outline.specs.Statements
+pub mod Ends
 pub mod Names
 pub mod Guesses
 pub mod TextKeyed

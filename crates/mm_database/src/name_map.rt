@@ -5,8 +5,7 @@ ghost use Rattle.std.specs.Prelude.{if◌then◌else◌, is_some, length, slice_
 ghost use Rattle.std.specs.Prelude.{◌+◌, ◌<◌, ◌≤◌, ◌^◌};
 ghost use Rattle.std.specs.Option.{option_map};
 ghost use Rattle.mm_spec.specs.Frame.{index_of};
-ghost use Rattle.mm_database.specs.Guesses.{AreGuessed, IsGuessed, ends_of, first_place};
-ghost use Rattle.mm_database.specs.Guesses.{no_guess, number_at};
+ghost use Rattle.mm_database.specs.Guesses.{AreGuessed, IsGuessed, first_place, no_guess};
 ghost use Rattle.mm_database.specs.Names.{find, names_of, with_name};
 
 use crate::name::Name;
@@ -60,65 +59,26 @@ impl<'a, V: Copy, A: Allocator> Model for NameMap<'a, V, A> {
         × AreGuessed (names_of m.entries.entries) m.guesses.items };
 }
 
-/// Returns the four bytes of a word from `at` on as a number.
-#[inline(always)]
-fn number_at(word: &[u8], at: usize) -> u32
-    requires { at + 4 ≤ length word.now }
-    ensures { result ≡ number_at word.now at }
-{
-    u32::from_le_bytes([word[at], word[at + 1], word[at + 2], word[at + 3]])
-}
-
-/// Returns the first and the last four bytes of a word, each as a number, or of a shorter word the
-/// first and the last byte.
-#[inline(always)]
-fn ends_of(word: &[u8]) -> (u32, u32)
-    ensures { result ≡ ends_of word.now }
-{
-    let len = word.len();
-    if len >= 4 {
-        (number_at(word, 0), number_at(word, len - 4))
-    } else if len > 0 {
-        (word[0] as u32, word[len - 1] as u32)
-    } else {
-        (0, 0)
-    }
-}
-
 /// Returns the first place of the guess for a name among so many. For a name of one byte, as most
 /// symbols of a formula are, it is that byte. For others it is behind these places, so that no
 /// longer name stands in the place of a byte. It goes by the upper bits of a sum of products, since
 /// a product's upper bits depend on more bits of its factors than its lower bits do. The factors
-/// are odd numbers whose bits look random, as hash functions have them (xxHash and MurmurHash3).
+/// are odd numbers whose bits look random, as hash functions have them (xxHash).
 #[inline(always)]
-fn first_place(word: &[u8], count: usize) -> usize
-    ensures is_first_place { result ≡ first_place word.now count }
+fn first_place(word: &Name, count: usize) -> usize
+    ensures is_first_place { result ≡ first_place word.now.bytes.now count }
     ensures is_small { result < 2 ^ 33 }
 {
-    if word.len() == 1 {
-        return word[0] as usize;
+    if word.bytes.len() == 1 {
+        return word.bytes[0] as usize;
     }
-    let (first, last) = ends_of(word);
-    let len = (word.len() % 0x1_0000_0000) as u32;
+    let (first, last) = word.ends();
     let sum = first
-        .wrapping_mul(0x9E37_79B1)
-        .wrapping_add(last.wrapping_mul(0x85EB_CA6B))
-        .wrapping_add(len.wrapping_mul(0x27D4_EB2F));
+        .wrapping_mul(0x9E37_79B1_85EB_CA87)
+        .wrapping_add(last.wrapping_mul(0xC2B2_AE3D_27D4_EB4F))
+        .wrapping_add((word.bytes.len() as u64).wrapping_mul(0x1656_67B1_9E37_79F9));
     let longer = count.saturating_sub(ONE_BYTE_PLACES);
-    ONE_BYTE_PLACES + (sum as usize).wrapping_mul(longer) / 0x1_0000_0000
-}
-
-/// Whether a name is the word. Names of one byte, as most symbols of a formula are, are compared
-/// without a call.
-#[inline(always)]
-fn is_word(name: &[u8], word: &[u8]) -> bool
-    ensures { result ≡ bytes_eq name.now word.now }
-{
-    if name.len() == 1 && word.len() == 1 {
-        name[0] == word[0]
-    } else {
-        name == word
-    }
+    ONE_BYTE_PLACES + ((sum / 0x1_0000_0000) as usize).wrapping_mul(longer) / 0x1_0000_0000
 }
 
 /// Returns the guess at a place, if there is such a place.
@@ -130,9 +90,9 @@ fn guess_at<A: Allocator>(guesses: &Vec<u32, A>, place: usize) -> Option<u32>
 }
 
 /// Puts a guess into the first free one of its places, if one is free.
-fn put_guess<A: Allocator>(guesses: &mut Vec<u32, A>, word: &[u8], guess: u32)
+fn put_guess<A: Allocator>(guesses: &mut Vec<u32, A>, word: &Name, guess: u32)
     requires { guess < no_guess }
-    ensures is_guessed { IsGuessed guesses.new.items word.now guess }
+    ensures is_guessed { IsGuessed guesses.new.items word.now.bytes.now guess }
     ensures others_stay { (w : List ℕ) (i : ℕ) → IsGuessed guesses.old.items w i
         → IsGuessed guesses.new.items w i }
 {
@@ -148,8 +108,8 @@ fn put_guess<A: Allocator>(guesses: &mut Vec<u32, A>, word: &[u8], guess: u32)
 }
 
 /// Sets the guess for a name. An index that is too large for a guess leaves no guesses.
-fn set_guess<A: Allocator>(guesses: &mut Vec<u32, A>, word: &[u8], index: usize)
-    ensures is_guessed { IsGuessed guesses.new.items word.now index }
+fn set_guess<A: Allocator>(guesses: &mut Vec<u32, A>, word: &Name, index: usize)
+    ensures is_guessed { IsGuessed guesses.new.items word.now.bytes.now index }
     ensures others_stay { (w : List ℕ) (i : ℕ) → IsGuessed guesses.old.items w i
         → IsGuessed guesses.new.items w i }
 {
@@ -177,7 +137,7 @@ fn renew_guesses<'a, V: Copy, A: Allocator>(
     }
     for index in 0..entries.len() {
         if let Some((name, _)) = entries.get_index(index) {
-            set_guess(guesses, name.bytes, index);
+            set_guess(guesses, name, index);
         }
     }
 }
@@ -187,10 +147,10 @@ fn renew_guesses<'a, V: Copy, A: Allocator>(
 fn add_guess<'a, V: Copy, A: Allocator>(
     entries: &IndexMap<Name<'a>, V, TextKeyed, A>,
     guesses: &mut Vec<u32, A>,
-    word: &[u8],
+    word: &Name,
     index: usize,
 )
-    requires is_name { slice_get (names_of entries.now.entries) index ≡ Some word.now }
+    requires is_name { slice_get (names_of entries.now.entries) index ≡ Some word.now.bytes.now }
     requires others_are_guessed { (i : ℕ) (w : List ℕ) → i ≢ index
         → slice_get (names_of entries.now.entries) i ≡ Some w → IsGuessed guesses.old.items w i }
     ensures { AreGuessed (names_of entries.now.entries) guesses.new.items }
@@ -227,14 +187,15 @@ impl<'a, V: Copy, A: Allocator> NameMap<'a, V, A> {
 
     /// Returns the value of the name with this index, if the name is the word.
     #[inline(always)]
-    fn value_at(&self, index: usize, word: &[u8]) -> Option<&V>
-        ensures index_is { IfSome result (λ v. index ≡ index_of word.now (names_of self.now)) }
-        ensures value_is { IfSome result (λ v. Some v.now ≡ find self.now word.now) }
+    fn value_at(&self, index: usize, word: &Name) -> Option<&V>
+        ensures index_is { IfSome result
+            (λ v. index ≡ index_of word.now.bytes.now (names_of self.now)) }
+        ensures value_is { IfSome result (λ v. Some v.now ≡ find self.now word.now.bytes.now) }
         ensures is_other { IfNone result
-            (slice_get (names_of self.now) index ≢ Some word.now) }
+            (slice_get (names_of self.now) index ≢ Some word.now.bytes.now) }
     {
         let (name, value) = self.entries.get_index(index)?;
-        if is_word(name.bytes, word) {
+        if name.is(word) {
             Some(value)
         } else {
             None
@@ -244,9 +205,9 @@ impl<'a, V: Copy, A: Allocator> NameMap<'a, V, A> {
     /// Returns the same as `get_full`. It isn't compiled into the callers of `get_full`, so that
     /// they needn't free registers for it: most names are guessed at once.
     #[inline(never)]
-    fn looked_up(&self, word: &[u8]) -> (usize, Option<&V>)
-        ensures index_is { result.0 ≡ index_of word.now (names_of self.now) }
-        ensures value_is { option_map (λ v. v.now) result.1 ≡ find self.now word.now }
+    fn looked_up(&self, word: &Name) -> (usize, Option<&V>)
+        ensures index_is { result.0 ≡ index_of word.now.bytes.now (names_of self.now) }
+        ensures value_is { option_map (λ v. v.now) result.1 ≡ find self.now word.now.bytes.now }
     {
         let first = first_place(word, self.guesses.len());
         for place in first..first + WINDOW {
@@ -263,11 +224,11 @@ impl<'a, V: Copy, A: Allocator> NameMap<'a, V, A> {
     }
 
     /// Returns the same as `get_full`, without guesses.
-    fn hashed(&self, word: &[u8]) -> (usize, Option<&V>)
-        ensures index_is { result.0 ≡ index_of word.now (names_of self.now) }
-        ensures value_is { option_map (λ v. v.now) result.1 ≡ find self.now word.now }
+    fn hashed(&self, word: &Name) -> (usize, Option<&V>)
+        ensures index_is { result.0 ≡ index_of word.now.bytes.now (names_of self.now) }
+        ensures value_is { option_map (λ v. v.now) result.1 ≡ find self.now word.now.bytes.now }
     {
-        match self.entries.get_full(Name { bytes: word }) {
+        match self.entries.get_full(*word) {
             Some((index, _, value)) => (index, Some(value)),
             None => (self.entries.len(), None),
         }
@@ -280,13 +241,14 @@ impl<'a, V: Copy, A: Allocator> NameMap<'a, V, A> {
         ensures index_is { result.0 ≡ index_of word.now (names_of self.now) }
         ensures value_is { option_map (λ v. v.now) result.1 ≡ find self.now word.now }
     {
-        if let Some(guess) = guess_at(&self.guesses, first_place(word, self.guesses.len())) {
+        let name = Name::new(word);
+        if let Some(guess) = guess_at(&self.guesses, first_place(&name, self.guesses.len())) {
             let index = guess as usize;
-            if let Some(value) = self.value_at(index, word) {
+            if let Some(value) = self.value_at(index, &name) {
                 return (index, Some(value));
             }
         }
-        self.looked_up(word)
+        self.looked_up(&name)
     }
 }
 
@@ -321,11 +283,24 @@ impl<'a, V: Copy, A: Allocator + Copy> NameMap<'a, V, A> {
         ensures name_is_added { OnOk result
             (names_of self.new ≡ with_name word.now (names_of self.old)) }
     {
-        let (index, before) = self.entries.insert_full(Name { bytes: word }, value)?;
+        self.insert_name(Name::new(word), value)
+    }
+
+    /// The same as `insert`, by the name.
+    fn insert_name(&mut self, name: Name<'a>, value: V) -> Result<bool, AllocError>
+        ensures was_there { IfOk result (λ b. b ≡ is_some (find self.old name.entry.bytes.now)) }
+        ensures value_is_set { OnOk result
+            ((w : List ℕ)
+            → find self.new w
+            ≡ (if bytes_eq name.entry.bytes.now w then Some value else find self.old w)) }
+        ensures name_is_added { OnOk result
+            (names_of self.new ≡ with_name name.entry.bytes.now (names_of self.old)) }
+    {
+        let (index, before) = self.entries.insert_full(name, value)?;
         if before.is_some() {
             return Ok(true);
         }
-        add_guess(&self.entries, &mut self.guesses, word, index);
+        add_guess(&self.entries, &mut self.guesses, &name, index);
         Ok(false)
     }
 }

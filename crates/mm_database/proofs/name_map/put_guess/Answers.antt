@@ -12,11 +12,11 @@ pub returns-then-before-clause-is_guessed : goal.returns-then-before-clause-is_g
 returns-then-before-clause-is_guessed g c =
     let guesses = c.loop-place.guesses.items in
     let place = c.loop-place.place in
-    let first_is : c.first_place-first.result ≡ first_place c.args.word.now (length guesses) =
-    c.first_place-first.ensures.is_first_place ∙ ap (first_place c.args.word.now)
+    let first_is : c.first_place-first.result ≡ first_place c.args.word.now.bytes.now (length guesses) =
+    c.first_place-first.ensures.is_first_place ∙ ap (first_place c.args.word.now.bytes.now)
     (c.len.ensures ∙ c.args.guesses.now.ok.0
     ∙ sym (ap (λ v. length v.items) c.loop-place.invariant.1)) in
-    guessed_at_first_free guesses place c.args.guess c.args.word.now c.requires
+    guessed_at_first_free guesses place c.args.guess c.args.word.now.bytes.now c.requires
     (subst (λ first. first ≤ place) first_is c.loop-place.invariant.0)
     (subst (λ first. AreTaken guesses first place) first_is c.loop-place.invariant.2)
     (place_is_free g c)

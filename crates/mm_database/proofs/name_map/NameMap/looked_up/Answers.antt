@@ -20,24 +20,24 @@ loop-place-init g c = (
 
 -- the word is none of the names
 word_is_absent : (g : _) (c : goal.After-len-then-guess g)
-    → is_in c.args.word.now (names_of c.args.self.now) ≡ false
+    → is_in c.args.word.now.bytes.now (names_of c.args.self.now) ≡ false
 word_is_absent g c =
-    let first_is = c.first_place-first.ensures.is_first_place ∙ ap (first_place c.args.word.now)
+    let first_is = c.first_place-first.ensures.is_first_place ∙ ap (first_place c.args.word.now.bytes.now)
     (c.len.ensures ∙ c.self.inside.guesses.ok.0) in
     let is_map = rw c.self.view_is at c.self.invariant in
-    absent_at_free_place (names_of c.args.self.now) c.self.inside.guesses.items c.args.word.now _ _
+    absent_at_free_place (names_of c.args.self.now) c.self.inside.guesses.items c.args.word.now.bytes.now _ _
     is_map.1 first_is c.loop-place.invariant.0 c.loop-place-test.true c.loop-place.invariant.1
     (sym c.guess_at.ensures ∙ c.in-Some.is ∙ ap Some c.if-guess.true)
 
 pub returns-then-guess-clause-index_is : goal.returns-then-guess-clause-index_is
 returns-then-guess-clause-index_is g c =
     c.len-then-guess.ensures.len ∙ ap length c.self.view_is
-    ∙ missing_number_is_count c.args.word.now c.args.self.now
-    (missing_value c.args.self.now c.args.word.now (word_is_absent g c))
+    ∙ missing_number_is_count c.args.word.now.bytes.now c.args.self.now
+    (missing_value c.args.self.now c.args.word.now.bytes.now (word_is_absent g c))
 
 pub returns-then-guess-clause-value_is : goal.returns-then-guess-clause-value_is
 returns-then-guess-clause-value_is g c =
-    sym (missing_value c.args.self.now c.args.word.now (word_is_absent g c))
+    sym (missing_value c.args.self.now c.args.word.now.bytes.now (word_is_absent g c))
 
 pub loop-place-preserved : goal.loop-place-preserved
 loop-place-preserved g c =

@@ -6,4 +6,4 @@ use Rattle.mm_database.proofs.name_map.NameMap.looked_up.Given as goal
 abbrev pub invariant-loop-place : goal.invariant-loop-place
 invariant-loop-place g l =
     (l.first ≤ l.place)
-    × HaveOthers (names_of l.self) l.self-inside.guesses.items l.word l.first l.place
+    × HaveOthers (names_of l.self) l.self-inside.guesses.items l.word.bytes.now l.first l.place
