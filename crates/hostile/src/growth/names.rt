@@ -18,7 +18,7 @@ const NAMES: u32 = 300;
 /// What names have at both ends.
 #[derive(Clone, Copy)]
 enum Ends {
-    /// All names have the same four bytes there, and so the same guesses.
+    /// All names have the same eight bytes there, and so the same guesses.
     Same,
     /// The digits of their number.
     Digits,
@@ -32,7 +32,7 @@ fn matrix_alone() -> Sections {
     }
 }
 
-/// Appends the name of a number. All names have 12 bytes.
+/// Appends the name of a number. All names have 20 bytes.
 fn push_name(text: &mut Vec<u8>, ends: Ends, number: u32) -> Result<(), AllocError> {
     let mut digits = [b'0'; 4];
     digits[1] = b'0' + (number / 100 % 10) as u8;
@@ -40,13 +40,13 @@ fn push_name(text: &mut Vec<u8>, ends: Ends, number: u32) -> Result<(), AllocErr
     digits[3] = b'0' + (number % 10) as u8;
     match ends {
         Ends::Same => {
-            text.extend_from_slice(b"same")?;
+            text.extend_from_slice(b"the-same")?;
             text.extend_from_slice(&digits)?;
-            text.extend_from_slice(b"ends")
+            text.extend_from_slice(b"-as-ends")
         }
         Ends::Digits => {
             text.extend_from_slice(&digits)?;
-            text.extend_from_slice(b"amid")?;
+            text.extend_from_slice(b"in-the-midst")?;
             text.extend_from_slice(&digits)
         }
     }
