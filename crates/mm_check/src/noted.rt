@@ -13,14 +13,20 @@ use mm_steps::Step;
 use std::alloc::{AllocError, Allocator};
 use std::marker::Model;
 
+/// How many slots say where assertions are noted; they take 64 kB, and so stay in the processor's
+/// caches, where one for each statement of a large database wouldn't. The slot of an assertion is
+/// the number of its statement modulo this. Where two assertions of a proof have one slot, they may
+/// be noted again and again.
+const NOTED_SLOTS: usize = 16_384;
+
 /// The assertions that were noted as cited, by the numbers of their statements. It is kept from
 /// proof to proof so that its memory is reused.
 #[derive(Drop)]
 pub struct NotedAssertions<A: Allocator> {
     /// The statement numbers of the assertions, in the order in which they were noted.
     numbers: Vec<u32, A>,
-    /// For each statement the index at which it may be in `numbers`.
-    indices: Vec<u32, A>,
+    /// For each slot the index at which its assertion may be in `numbers`.
+    slots: Vec<u32, A>,
 }
 
 impl<A: Allocator> Model for NotedAssertions<A> {
@@ -32,15 +38,15 @@ impl<A: Allocator> Model for NotedAssertions<A> {
 }
 
 impl<A: Allocator> NotedAssertions<A> {
-    /// No assertions. `count` is the number of statements of the database.
-    pub fn new(alloc: A, count: usize) -> Result<Self, AllocError>
+    /// No assertions.
+    pub fn new(alloc: A) -> Result<Self, AllocError>
     where
         A: Copy,
         ensures { IfOk result (λ n. n ≡ []) }
     {
         Ok(NotedAssertions {
             numbers: Vec::new(alloc),
-            indices: vec![in alloc; 0; count]?,
+            slots: vec![in alloc; 0; NOTED_SLOTS]?,
         })
     }
 
@@ -51,27 +57,28 @@ impl<A: Allocator> NotedAssertions<A> {
         empty(&mut self.numbers);
     }
 
-    /// Whether `statement` is in `numbers` at the index that `indices` gives for it. If it isn't,
-    /// it may still be in `numbers`.
+    /// Whether `statement` is in `numbers` at the index that its slot gives. If it isn't, it may
+    /// still be in `numbers`.
     fn has(&self, statement: u32) -> bool
         ensures { result ≡ true → is_member self.now statement ≡ true }
     {
-        let index = statement as usize;
-        if index >= self.indices.len() {
+        let slot = statement as usize % NOTED_SLOTS;
+        if slot >= self.slots.len() {
             return false;
         }
-        let number_index = self.indices[index] as usize;
+        let number_index = self.slots[slot] as usize;
         number_index < self.numbers.len() && self.numbers[number_index] == statement
     }
 
-    /// Adds a statement, unless it is in `numbers` at the index that `indices` gives for it.
+    /// Adds a statement, unless it is in `numbers` at the index that its slot gives.
     #[inline(always)]
     pub fn add(&mut self, statement: u32) -> Result<(), AllocError>
         ensures { OnOk result
             ((a : ℕ) → is_member self.new a ≡ (is_member self.old a || (a == statement))) }
     {
         if !self.has(statement) {
-            put_number(&mut self.indices, statement as usize, self.numbers.len());
+            let slot = statement as usize % NOTED_SLOTS;
+            put_number(&mut self.slots, slot, self.numbers.len());
             self.numbers.push(statement)?;
         }
         Ok(())

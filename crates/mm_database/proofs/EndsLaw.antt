@@ -12,7 +12,10 @@ AreBytes w = (i : ℕ) → slice_index w i < 256
 
 -- a number below 256 is the last digit of what it is added to
 last_digit : (a b x y : ℕ) → a < 256 → b < 256 → a + x * 256 ≡ b + y * 256 → (a ≡ b) × (x ≡ y)
-last_digit a b x y a_lt b_lt sums = (omega (arith, a_lt, b_lt, sums), omega (arith, a_lt, b_lt, sums))
+last_digit a b x y a_lt b_lt sums = (
+  omega (arith, a_lt, b_lt, sums),
+  omega (arith, a_lt, b_lt, sums),
+)
 
 -- the four digits of a number
 four_digits : (a b c d a' b' c' d' : ℕ) → a < 256 → b < 256 → c < 256 → d < 256
@@ -21,8 +24,9 @@ four_digits : (a b c d a' b' c' d' : ℕ) → a < 256 → b < 256 → c < 256 �
     → (a ≡ a') × (b ≡ b') × (c ≡ c') × (d ≡ d')
 four_digits a b c d a' b' c' d' a_lt b_lt c_lt d_lt a'_lt b'_lt c'_lt d'_lt numbers =
     let first = last_digit a a' (b + c * 256 + d * 65536) (b' + c' * 256 + d' * 65536) a_lt a'_lt
-        (omega (arith, numbers)) in
-    let second = last_digit b b' (c + d * 256) (c' + d' * 256) b_lt b'_lt (omega (arith, first.1)) in
+    (omega (arith, numbers)) in
+    let second = last_digit b b' (c + d * 256) (c' + d' * 256) b_lt b'_lt
+    (omega (arith, first.1)) in
     let third = last_digit c c' d d' c_lt c'_lt (second.1) in
     (first.0, second.0, third.0, third.1)
 
@@ -31,9 +35,9 @@ pub same_four : (v w : List ℕ) (i k : ℕ) → AreBytes v → AreBytes w
     → number_at v i ≡ number_at w i → k < 4 → slice_index v (i + k) ≡ slice_index w (i + k)
 same_four v w i k v_bytes w_bytes numbers k_lt =
     let digits = four_digits (slice_index v i) (slice_index v (i + 1)) (slice_index v (i + 2))
-        (slice_index v (i + 3)) (slice_index w i) (slice_index w (i + 1)) (slice_index w (i + 2))
-        (slice_index w (i + 3)) (v_bytes i) (v_bytes (i + 1)) (v_bytes (i + 2)) (v_bytes (i + 3))
-        (w_bytes i) (w_bytes (i + 1)) (w_bytes (i + 2)) (w_bytes (i + 3)) numbers in
+    (slice_index v (i + 3)) (slice_index w i) (slice_index w (i + 1)) (slice_index w (i + 2))
+    (slice_index w (i + 3)) (v_bytes i) (v_bytes (i + 1)) (v_bytes (i + 2)) (v_bytes (i + 3))
+    (w_bytes i) (w_bytes (i + 1)) (w_bytes (i + 2)) (w_bytes (i + 3)) numbers in
     elim (cases_order k 1) [
       | inl k_is ↦ rw k_is digits.1
       | inr (inl k_lt_1) ↦ (let first_is : i + k ≡ i = omega (arith, k_lt_1) in
@@ -54,11 +58,11 @@ pub same_eight : (v w : List ℕ) (i k : ℕ) → AreBytes v → AreBytes w
     → slice_index v (i + k) ≡ slice_index w (i + k)
 same_eight v w i k v_bytes w_bytes numbers k_lt =
     let low : number_at v i ≡ number_at w i =
-        halves_0 (number_at v i) (number_at w i) (number_at v (i + 4)) (number_at w (i + 4))
-        (number_lt v i v_bytes) (number_lt w i w_bytes) numbers in
+    halves_0 (number_at v i) (number_at w i) (number_at v (i + 4)) (number_at w (i + 4))
+    (number_lt v i v_bytes) (number_lt w i w_bytes) numbers in
     let high : number_at v (i + 4) ≡ number_at w (i + 4) =
-        halves_1 (number_at v i) (number_at w i) (number_at v (i + 4)) (number_at w (i + 4))
-        (number_lt v i v_bytes) (number_lt w i w_bytes) numbers in
+    halves_1 (number_at v i) (number_at w i) (number_at v (i + 4)) (number_at w (i + 4))
+    (number_lt v i v_bytes) (number_lt w i w_bytes) numbers in
     elim (cases_lt k 4) [
       | inl k_lt_4 ↦ same_four v w i k v_bytes w_bytes low k_lt_4
       | inr k_ge_4 ↦ (let k_is : i + 4 + (k - 4) ≡ i + k = omega (arith, k_ge_4) in
@@ -103,8 +107,10 @@ ends_of_middle : (w : List ℕ) → 4 ≤ length w → length w < 8
 ends_of_middle w le lt = grind (arith, nat_tests)
 
 ends_of_short : (w : List ℕ) → 0 < length w → length w < 4
-    → ends_of w ≡ (slice_index w 0,
-    slice_index w (length w / 2) * 256 + slice_index w (length w - 1))
+    → ends_of w ≡ (
+      slice_index w 0,
+      slice_index w (length w / 2) * 256 + slice_index w (length w - 1),
+    )
 ends_of_short w some few = grind (arith, nat_tests)
 
 -- two words of one length and with the same ends have the same bytes
@@ -112,7 +118,8 @@ same_at : (v w : List ℕ) (i : ℕ) → AreBytes v → AreBytes w → length v 
     → length v ≤ 16 → ends_of v ≡ ends_of w → i < length v → slice_index v i ≡ slice_index w i
 same_at v w i v_bytes w_bytes lengths few ends i_lt = elim (cases_lt (length v) 8) [
   | inr long ↦
-      (let both = sym (ends_of_long v long) ∙ ends ∙ ends_of_long w (omega (arith, long, lengths)) in
+      (let both = sym (ends_of_long v long) ∙ ends
+      ∙ ends_of_long w (omega (arith, long, lengths)) in
       reached v w 8 i lengths long (omega (arith, few))
       (λ k k_lt. same_eight v w 0 k v_bytes w_bytes (ap (λ p. p.0) both) k_lt)
       (λ k k_lt. back_eight (length v - 8) (length w - 8) k (omega (arith, lengths)) k_lt

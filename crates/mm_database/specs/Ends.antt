@@ -18,5 +18,7 @@ abbrev pub ends_of : List ℕ → ℕ × ℕ
 ends_of w =
     if nat_le 8 (length w) then (wide_number_at w 0, wide_number_at w (length w - 8)) else
     (if nat_le 4 (length w) then (number_at w 0, number_at w (length w - 4)) else
-    (if nat_lt 0 (length w) then (slice_index w 0,
-    slice_index w (length w / 2) * 256 + slice_index w (length w - 1)) else (0, 0)))
+    (if nat_lt 0 (length w) then (
+      slice_index w 0,
+      slice_index w (length w / 2) * 256 + slice_index w (length w - 1),
+    ) else (0, 0)))

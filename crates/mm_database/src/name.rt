@@ -4,7 +4,6 @@ ghost use Rattle.std.specs.Prelude.{◌≡◌, ◌≢◌, ◌≤◌, ◌+◌, []
 ghost use Rattle.std.specs.Cmp.Lexicographic.{bytes_decides, nat_list_eq_equiv};
 ghost use Rattle.std.specs.Cmp.{on_equiv, on_per, partial_equiv_from_equiv};
 ghost use Rattle.std.proofs.Common.{ap};
-
 ghost use Rattle.mm_database.specs.Ends.{ends_of, number_at, wide_number_at};
 
 use indexmap::Equivalent;
@@ -61,10 +60,7 @@ fn ends_of(word: &[u8]) -> (u64, u64)
     if len >= 8 {
         (wide_number_at(word, 0), wide_number_at(word, len - 8))
     } else if len >= 4 {
-        (
-            number_at(word, 0) as u64,
-            number_at(word, len - 4) as u64,
-        )
+        (number_at(word, 0) as u64, number_at(word, len - 4) as u64)
     } else if len > 0 {
         (
             word[0] as u64,

@@ -195,11 +195,7 @@ impl<'a, V: Copy, A: Allocator> NameMap<'a, V, A> {
             (slice_get (names_of self.now) index ≢ Some word.now.bytes.now) }
     {
         let (name, value) = self.entries.get_index(index)?;
-        if name.is(word) {
-            Some(value)
-        } else {
-            None
-        }
+        if name.is(word) { Some(value) } else { None }
     }
 
     /// Returns the same as `get_full`. It isn't compiled into the callers of `get_full`, so that
