@@ -1,7 +1,6 @@
 //! Tests of what can go wrong: allocations that are refused, reads and writes that fail, truncated
-//! and malicious texts, and random texts. Apart from an allocator that refuses allocations, this
-//! crate has only tests, which use public calls. It isn't part of the program, and promises
-//! nothing.
+//! and malicious texts. Apart from an allocator that refuses allocations, this crate has only
+//! tests, which use public calls. It isn't part of the program, and promises nothing.
 #![tactic(auto)]
 
 #[cfg(test)]
@@ -13,8 +12,6 @@ mod growth;
 pub mod heap;
 #[cfg(test)]
 mod malicious;
-#[cfg(test)]
-mod random;
 #[cfg(test)]
 mod readers_and_writers;
 #[cfg(test)]
