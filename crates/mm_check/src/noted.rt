@@ -13,8 +13,8 @@ use mm_steps::Step;
 use std::alloc::{AllocError, Allocator};
 use std::marker::Model;
 
-/// How many slots say where assertions are noted; they take 64 kB, and so stay in the processor's
-/// caches, where one for each statement of a large database wouldn't. The slot of an assertion is
+/// How many slots at most say where assertions are noted; they take 64 kB, and so stay in the
+/// processor's caches, where one for each statement of a large database wouldn't. The slot of an assertion is
 /// the number of its statement modulo this. Where two assertions of a proof have one slot, they may
 /// be noted again and again.
 const NOTED_SLOTS: usize = 16_384;
@@ -38,15 +38,15 @@ impl<A: Allocator> Model for NotedAssertions<A> {
 }
 
 impl<A: Allocator> NotedAssertions<A> {
-    /// No assertions.
-    pub fn new(alloc: A) -> Result<Self, AllocError>
+    /// No assertions. `count` is the number of statements of the database: more slots aren't needed.
+    pub fn new(alloc: A, count: usize) -> Result<Self, AllocError>
     where
         A: Copy,
         ensures { IfOk result (λ n. n ≡ []) }
     {
         Ok(NotedAssertions {
             numbers: Vec::new(alloc),
-            slots: vec![in alloc; 0; NOTED_SLOTS]?,
+            slots: vec![in alloc; 0; count.min(NOTED_SLOTS)]?,
         })
     }
 
