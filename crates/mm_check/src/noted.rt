@@ -13,10 +13,10 @@ use mm_steps::Step;
 use std::alloc::{AllocError, Allocator};
 use std::marker::Model;
 
-/// How many slots at most say where assertions are noted; they take 64 kB, and so stay in the
-/// processor's caches, where one for each statement of a large database wouldn't. The slot of an assertion is
-/// the number of its statement modulo this. Where two assertions of a proof have one slot, they may
-/// be noted again and again.
+/// How many slots at most say where assertions are noted. They take 64 kB, and so stay in the
+/// processor's caches, where one for each statement of a large database wouldn't. The slot of an
+/// assertion is the number of its statement modulo this. Where two assertions of a proof have one
+/// slot, they may be noted again and again.
 const NOTED_SLOTS: usize = 16_384;
 
 /// The assertions that were noted as cited, by the numbers of their statements. It is kept from
@@ -38,7 +38,8 @@ impl<A: Allocator> Model for NotedAssertions<A> {
 }
 
 impl<A: Allocator> NotedAssertions<A> {
-    /// No assertions. `count` is the number of statements of the database: more slots aren't needed.
+    /// No assertions. `count` is the number of statements of the database, for which no more slots
+    /// are needed.
     pub fn new(alloc: A, count: usize) -> Result<Self, AllocError>
     where
         A: Copy,
