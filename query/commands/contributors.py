@@ -3,11 +3,13 @@
 import argparse
 from dataclasses import dataclass
 
+from query.answers.errors import NoAnswer
 from query.answers.output import Value
 from query.arguments.context import Context
 from query.arguments.options import Parser, add_database, add_open, positive
 from query.commands import Command
 from query.reports.choice import Options
+from query.reports.database import NOTHING
 from query.texts.contributed import contributed
 
 PAGE = """
@@ -55,6 +57,8 @@ def run(context: Context, arguments: argparse.Namespace) -> int:
     """Answers."""
     database = context.database(arguments.database, Options(open=arguments.open))
     text = database.text
+    if not text.assertions:
+        raise NoAnswer(f"{database.name}: {NOTHING}")
     theorems = [one for one in text.assertions if one.kind == "p"]
     passes = context.test()
     shares: dict[str | None, Share] = {}

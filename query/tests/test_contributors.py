@@ -9,7 +9,7 @@ from datetime import date, datetime
 from query.tests.world import DATABASES, SMALL, World, invented
 
 NAMES = ["NM", "Ann Other", "G&eacute;rard Lang", "Ann Other and NM", None]
-COMMENTED = re.compile(r"\$\(((?:(?!\$\)).)*+)\$\)\s+\S+\s+\$p\s", re.DOTALL)
+COMMENTED = re.compile(r"\$\(((?:(?!\$\)).)*)\$\)\s+\S+\s+\$p\s", re.DOTALL)
 SAID = re.compile(r"\(Contributed by ([^,()]+), (\d+-[A-Z][a-z]+-\d+)\.\)")
 
 Row = list[object]
@@ -72,6 +72,8 @@ class Contributors(World):
         done = self.query("contributors", "db.mm", "--format=tsv")
         self.assertEqual((done.status, done.lines()), (0, ["theorems\tfirst\tlast\tcontributor"]))
         self.assertEqual(done.err, "mmquery: db.mm: has no theorem\n")
+        self.write("empty.mm", "")
+        self.refuses("contributors", "empty.mm", why="has neither axioms nor theorems")
         self.write("db.mm", SMALL)
         self.assertEqual(self.rows("contributors", "db.mm"), [[4, None, None, None]])
         done = self.query("contributors", "db.mm", "--like=x*")
