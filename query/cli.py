@@ -11,12 +11,12 @@ import gc
 import os
 from typing import NoReturn
 
-from query.answers.errors import NoAnswer, nearest, reason, shown, tell
+from query.answers.errors import NoAnswer, reason, shown, tell
 from query.answers.output import Output, write_all
 from query.arguments.context import Context
 from query.arguments.filters import Filters, add_filters, filters_of
 from query.arguments.options import Parser, add_limits
-from query.commands import Command, command, names, summaries
+from query.commands import Command, command, instead_of, names, summaries
 from query.platform import limits, progress, signals
 from query.platform.limits import Limits
 
@@ -96,7 +96,7 @@ def run(words: list[str]) -> int:
         name, words = words[1], [words[1], "--help"]
     if name not in names():
         where = "; options stand behind the command" if name.startswith("-") else ""
-        raise NoAnswer(f"there is no command {shown(name)}{where or nearest(name, names())}")
+        raise NoAnswer(f"there is no command {shown(name)}{where or instead_of(name)}")
     chosen = command(name)
     before = words[1 : words.index("--")] if "--" in words else words[1:]
     if "--help" in before or "-h" in before:

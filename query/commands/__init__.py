@@ -12,6 +12,7 @@ import importlib
 from collections.abc import Callable
 from dataclasses import dataclass
 
+from query.answers.errors import nearest
 from query.arguments.context import Context
 from query.arguments.options import Parser
 
@@ -64,6 +65,7 @@ INDEX: dict[str, tuple[str, str]] = {
     "gate": ("gate", "whether a pull request keeps the rules that the base's mmdepend.toml sets"),
     "chapters": ("structure", "headers, with how many theorems below each rest on axioms"),
     "proofs": ("proofs", "how long proofs are, how deep theorems stand, and who contributed them"),
+    "contributors": ("contributors", "how many theorems each contributor has, and since when"),
     "order": ("structure", "axioms and theorems in one list, in file order"),
     "unfinished": ("structure", "theorems that are left open, and what rests on them"),
     "discouraged": ("structure", "which theorems use one whose new usage is discouraged"),
@@ -81,6 +83,46 @@ INDEX: dict[str, tuple[str, str]] = {
     "export": ("export", "statements, citations and marks as tables of SQLite"),
     "cache": ("cache", "the results that are kept: show or clear"),
 }
+
+# Words that somebody may type who doesn't know the commands, by the command that is meant.
+OTHER_NAMES: dict[str, str] = {
+    "verify": "check validate",
+    "rests": "axioms dependencies depends requires trace trace-back",
+    "falls": "affected breaks dependents impact",
+    "cites": "references uses",
+    "cited-by": "usage used-by users",
+    "uncited": "dead orphans unreferenced unused",
+    "why": "chain path paths",
+    "frees": "reprove",
+    "spare": "minimise minimize minimize-with shorten",
+    "repeats": "clones duplicate duplicates twins",
+    "unneeded": "redundant superfluous",
+    "top": "popular rank ranking statistics stats",
+    "compare": "changes diff",
+    "history": "blame log",
+    "gate": "ci lint",
+    "chapters": "contents headings outline sections toc",
+    "contributors": "authors people who",
+    "proofs": "lengths longest size steps",
+    "order": "labels list",
+    "unfinished": "incomplete todo",
+    "definitions": "conservative soundness",
+    "search": "find grep match",
+    "drop": "delete obsolete remove",
+    "graph": "dot",
+    "export": "sql sqlite",
+    "page": "html site",
+}
+NEAR_COMMAND = 0.65  # by difflib's ratio, at least
+
+
+def instead_of(word: str) -> str:
+    """Which command may be meant by a word that is none, as the end of a sentence."""
+    known = {other: name for name, others in OTHER_NAMES.items() for other in others.split()}
+    name = known.get(word.lower().replace("_", "-"))
+    if name is not None:
+        return f"; did you mean {name} ({INDEX[name][1]})?"
+    return nearest(word, INDEX, NEAR_COMMAND) or "; `mmquery --help` lists all commands"
 
 
 def summaries() -> dict[str, str]:

@@ -46,7 +46,7 @@ UNCITED_PAGE = """
 Lists in file order the theorems that no other one cites. With --not-discouraged, only those that
 may be cited: whose comment doesn't say (New usage is discouraged.). With --outside-mathboxes, what
 a mathbox cites counts as not cited, so that what is cited in mathboxes alone is listed too. Axioms
-on which nothing rests are listed by `top --below 1`.
+on which nothing rests are listed by `top --below 1`, which has the option --outside-mathboxes too.
 
 theorem  the label of the theorem
 

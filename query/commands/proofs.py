@@ -28,6 +28,8 @@ theorem      the label of the theorem
 contributor  who contributed it, as its comment says: (Contributed by N, 5-Aug-1993.)
 contributed  and when, as 1993-08-05
 
+How many theorems each contributor has is told by `contributors`.
+
   $ mmquery proofs set.mm --most 5
   $ mmquery proofs set.mm --by depth --main
   $ mmquery proofs set.mm 2p2e4

@@ -10,7 +10,8 @@ from query.arguments.context import Context
 from query.arguments.label_files import add_list, labels_of
 from query.arguments.options import Parser, add_choice_of_axioms, add_database, options_of, positive
 from query.commands import Command
-from query.reports.database import Dependence
+from query.reports.database import Database, Dependence
+from query.texts.text import Text
 
 TOP_PAGE = """
 Lists the axioms on which most theorems rest. With --theorems, the theorems that rest on most
@@ -22,6 +23,13 @@ axiom     the label of the axiom (with --theorems, theorem)
 With --below B, in file order the axioms on which fewer than B theorems rest: with --below 1 those
 on which nothing rests. With N too, the N of them on which most rest.
 
+With --outside-mathboxes the theorems that stand in no mathbox count, also for --below. So with
+--below 1 and --main it lists the axioms of the main part on which mathboxes alone rest, or nothing:
+
+outside   how many theorems that stand in no mathbox rest on it
+theorems  how many theorems rest on it, those in mathboxes too
+axiom     the label of the axiom
+
 With --against OLD, in file order the axioms on which another number of theorems rests than in the
 database OLD:
 
@@ -32,6 +40,7 @@ axiom     the label of the axiom
   $ mmquery top set.mm 3
   $ mmquery top set.mm --theorems 3
   $ mmquery top set.mm --below 1
+  $ mmquery top set.mm --outside-mathboxes --below 1 --main --axioms df-
   $ mmquery top set.mm --against old.mm
 """
 
@@ -84,8 +93,10 @@ def configure_top(parser: Parser) -> None:
     add_database(parser)
     parser.add_argument("number", metavar="N", nargs="?", type=positive, help="how many (else: 10)")
     parser.exclude("--theorems", "--below", "--against")
+    parser.exclude("--theorems", "--outside-mathboxes", "--against")
     parser.flag("--theorems", "rank theorems, not axioms")
     parser.value("--below", "B", "all axioms on which fewer than B theorems rest", type=positive)
+    parser.flag("--outside-mathboxes", "count only theorems that stand in no mathbox")
     parser.value("--against", "OLD", "axioms on which another number rests than in OLD")
     add_choice_of_axioms(parser)
 
@@ -102,7 +113,7 @@ def run_top(context: Context, arguments: argparse.Namespace) -> int:
         why = f"on each axiom as many theorems rest in {old.name} as in {database.name}"
         context.table(["was", "theorems", "axiom"], rows, why, "axiom")
         return 0
-    put_ranking(context, arguments, dependence)
+    put_ranking(context, arguments, database)
     return 0
 
 
@@ -118,24 +129,39 @@ def differences(old: Dependence, new: Dependence) -> list[list[Value]]:
     ]
 
 
-def put_ranking(context: Context, arguments: argparse.Namespace, dependence: Dependence) -> None:
+def put_ranking(context: Context, arguments: argparse.Namespace, database: Database) -> None:
     """Answers `top` about one database."""
+    dependence, whose = database.dependence(), ""
+    labels, columns = dependence.axioms, ["theorems", "axiom"]
     if arguments.theorems:
         sizes = [dependence.bits(row).bit_count() for row in range(len(dependence.theorems))]
         labels, columns = dependence.theorems, ["axioms", "theorem"]
     else:
-        sizes, labels, columns = dependence.sizes(), dependence.axioms, ["theorems", "axiom"]
+        sizes = dependence.sizes()
     rows: list[list[Value]] = [[size, label] for size, label in zip(sizes, labels)]
+    if arguments.outside_mathboxes:
+        outside = sizes_outside(dependence, database.text)
+        rows = [[size, *row] for size, row in zip(outside, rows)]
+        columns, whose = ["outside", *columns], " outside of mathboxes"
     why = f"{dependence.name}: has no theorem"
     if arguments.below is not None:
         rows = [row for row in rows if int(str(row[0])) < arguments.below]
-        why = f"{dependence.name}: on each axiom{dependence.which} {arguments.below} or more rest"
+        most = f"{arguments.below} or more rest{whose}"
+        why = f"{dependence.name}: on each axiom{dependence.which} {most}"
     if not rows:
         context.tell(why)
-    passing = context.passing(rows, 1)
+    passing = context.passing(rows, len(columns) - 1)
     if arguments.below is None or arguments.number is not None:
         passing = sorted(passing, key=lambda row: -int(str(row[0])))[: arguments.number or 10]
     context.out.table(columns, passing)
+
+
+def sizes_outside(dependence: Dependence, text: Text) -> list[int]:
+    """For each column how many theorems that stand in no mathbox rest on its axiom."""
+    flags = bytes(text.box(text.by_label[label]) is None for label in dependence.theorems)
+    outside = int.from_bytes(flags, "big")
+    columns = (dependence.marked(column) for column in range(len(dependence.axioms)))
+    return [(int.from_bytes(marked, "big") & outside).bit_count() for marked in columns]
 
 
 def configure_sets(parser: Parser) -> None:

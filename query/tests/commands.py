@@ -44,6 +44,7 @@ WORDS: dict[str, tuple[str, ...]] = {
     "gate": ("DB", "newer.mm"),
     "chapters": ("DB", "ax-1"),
     "proofs": ("DB",),
+    "contributors": ("DB",),
     "order": ("DB",),
     "unfinished": ("DB",),
     "discouraged": ("DB",),

@@ -9,7 +9,7 @@ import lzma
 import shutil
 import unittest
 
-from query.commands import command, names
+from query.commands import OTHER_NAMES, command, instead_of, names, summaries
 from query.tests.commands import WHOLE, WORDS, words_of
 from query.tests.world import HOSTILE, MMQUERY, SMALL, Done, World, invented
 
@@ -38,13 +38,28 @@ class CommandLine(World):
         self.assertEqual(self.answers(), listed)
         self.assertEqual([command(name).name for name in names()], names())
 
+    def test_other_names_of_commands(self) -> None:
+        """None of them is a command, and each means one."""
+        others = [other for words in OTHER_NAMES.values() for other in words.split()]
+        self.assertEqual(len(others), len(set(others)))
+        self.assertFalse(set(others) & set(names()))
+        self.assertLessEqual(set(OTHER_NAMES), set(names()))
+        for name, words in OTHER_NAMES.items():
+            for other in words.split():
+                why = f"there is no command {other}; did you mean {name} ({summaries()[name]})?"
+                self.assertEqual(instead_of(other), why.partition(other)[2])
+        why = "no command Duplicates; did you mean repeats (theorems that say what an earlier"
+        self.refuses("Duplicates", "small.mm", why=why)
+        self.refuses("trace_back", "small.mm", why="did you mean rests (on which axioms")
+        self.refuses("path", "--help", why="did you mean why (")
+
     def test_version(self) -> None:
         self.assertRegex(self.answers("--version")[0], r"\Ammquery [0-9.]+\Z")
 
     def test_unknown_words_are_named_with_the_nearest(self) -> None:
         self.refuses("rest", "small.mm", why="no command rest; did you mean rests?")
         self.refuses("rests", "small.mm", "WI2", why="'WI2'; did you mean wi2?")
-        self.refuses("xyzzy", why="no command xyzzy")
+        self.refuses("xyzzy", why="no command xyzzy; `mmquery --help` lists all commands\n")
         self.refuses("rests", "small.mm", "a2", "--esential", why="did you mean --essential?")
         self.refuses("rests", "--formt=json", "small.mm", "a2", why="did you mean --format?")
         self.refuses("rests", "small.mm", "a2", "--xyzzy", why="no option --xyzzy\n")

@@ -33,7 +33,7 @@ LISTS: dict[str, list[str]] = {
     "search": ["( p ->"],
 }
 """Each command that lists labels, with words of a question."""
-COUNTING = {"sets"}
+COUNTING = {"sets", "contributors"}
 """Those whose filters choose what is counted."""
 COLUMNS = {"rests": "axiom", "cites": "cited", "top": "axiom", "order": "label"}
 COLUMNS |= {"discouraged": "label", "definitions": "definition", "way-out": "of"}

@@ -148,6 +148,35 @@ class Lengths(World):
         words = ("uncited", "db.mm", "--outside-mathboxes", "--main")
         self.assertEqual(self.answers(*words), ["wi2", "ax1", "a1i"])
 
+    def test_axioms_on_which_mathboxes_alone_rest(self) -> None:
+        """Against trying everything, with the end of a database as a mathbox."""
+        alone = 0
+        for seed in range(8):
+            chance = random.Random(seed)
+            database = invented(chance, 10)
+            lines = database.text.splitlines()
+            first = chance.randrange(6, len(lines))
+            lines.insert(first, "$(\n#*#*#*#\n  Mathbox for A\n#*#*#*#\n$)")
+            self.write("db.mm", "\n".join(lines))
+            main = [each for each in database.cites if f" {each} $p" in "\n".join(lines[:first])]
+            counts = []
+            for axiom in database.axioms:
+                users = database.users(axiom)
+                counts.append([len([each for each in users if each in main]), len(users), axiom])
+            words = ("top", "db.mm", "--outside-mathboxes", "--format=json")
+            rows = [list(row.values()) for row in self.query(*words, "--below=2").rows()]
+            self.assertEqual(rows, [row for row in counts if int(str(row[0])) < 2])
+            alone += len([row for row in rows if not row[0] and row[1]])
+            rows = [list(row.values()) for row in self.query(*words, "3").rows()]
+            self.assertEqual(rows, sorted(counts, key=lambda row: -int(str(row[0])))[:3])
+        self.assertGreater(alone, 2)
+        self.write("db.mm", SMALL)
+        asked = ("top", "db.mm", "--outside-mathboxes")
+        done = self.query(*asked, "--below=1", "--like=ax-1")
+        self.assertIn("typecode '|-' 1 or more rest outside of mathboxes", done.err)
+        self.refuses(*asked, "--theorems", why="not allowed with argument")
+        self.refuses(*asked, "--against", "db.mm", why="not allowed with argument")
+
 
 def listed(field: object) -> list[object]:
     """A list of JSON."""
