@@ -113,7 +113,9 @@ OTHER_NAMES: dict[str, str] = {
     "export": "sql sqlite",
     "page": "html site",
 }
-NEAR_COMMAND = 0.65  # by difflib's ratio, at least
+# By difflib's ratio, at least: more than for other words, since short names are soon alike, as
+# `path` and `picture` are not in what they mean.
+NEAR_COMMAND = 0.65
 
 
 def instead_of(word: str) -> str:
