@@ -1,7 +1,7 @@
 -- Symbols keep their numbers when statements are added.
 use Rattle.std.proofs.Common.{rules, ◌≡◌, ℕ, suc, ◌+◌, ◌<◌, ◌≤◌, true, ◌||◌, List, [], ◌∷◌, ◌++◌}
 use Rattle.std.proofs.Common.{length, map, flat_map, slice_get, None, Some, bytes_eq, refl, sym, ap}
-use Rattle.std.proofs.Common.{ap₂, ◌∙◌, arith, true≢false, append_assoc, append-nil, length-append}
+use Rattle.std.proofs.Common.{ap₂, ◌∙◌, arith, true≢false, append_assoc, append-nil}
 use Rattle.std.proofs.lemmas.Grind.{common_steps, flat_map-append}
 use Rattle.std.proofs.lemmas.Bool.Decides.{nat_tests}
 use Rattle.std.proofs.lemmas.List.{map-append, length-map}
@@ -21,7 +21,7 @@ use Rattle.mm_lists.specs.Lists.{with_end}
 use Rattle.mm_database.specs.Names.{with_name}
 use Rattle.mm_lists.proofs.ListsLaw.{joined_with_one_more}
 use Rattle.mm_outline.proofs.StatementsLaw.{element_of_mapped}
-use Rattle.mm_scope.specs.Formulas.{AreFormulas, numbers_in, judged, unjudged}
+use Rattle.mm_scope.specs.Formulas.{AreFormulas, numbers_in}
 use Rattle.mm_database.proofs.SymbolsLaw.{first_occurrences_push, if_new, bytes_eq_itself}
 use Rattle.mm_scope.proofs.BoundsLaw.{symbol_is_declared_name}
 
@@ -75,16 +75,20 @@ symbol_names_grow db s =
     let grown = first_occurrences_grow (declared db) (constants_of s ++ variables_of s) in
     (grown.0, ap (first_occurrences []) (declared_push db s) ∙ grown.1)
 
--- a statement that declares nothing leaves the names as they are
-pub symbol_names_unchanged : (db : List Statement) (s : Statement)
-    → constants_of s ++ variables_of s ≡ []
-    → symbol_names (db ++ s ∷ []) ≡ symbol_names db
-symbol_names_unchanged db s declares_nothing = grind (arith, nat_tests, declared_push, append-nil)
+-- the names of the first statements are the first names
+pub symbol_names_in_front : (db later : List Statement)
+    → (added : List Bytes) × (symbol_names (db ++ later) ≡ symbol_names db ++ added)
+symbol_names_in_front db later =
+    let grown = first_occurrences_grow (declared db) (declared later) in (
+      grown.0,
+      ap (first_occurrences []) (flat_map-append
+          (λ s. constants_of s ++ variables_of s) db later) ∙ grown.1,
+    )
 
 -- ---- formulas keep their numbers
 
 -- words that have equal numbers by two lists of names have equal lists of numbers
-indices_equal : (ns ms : List Bytes) (ws : List Bytes)
+pub indices_equal : (ns ms : List Bytes) (ws : List Bytes)
     → ((w : Bytes) → is_in w ws ≡ true → index_of w ns ≡ index_of w ms)
     → map (λ w. index_of w ns) ws ≡ map (λ w. index_of w ms) ws
 indices_equal ns ms [] index_equal = refl
@@ -193,26 +197,3 @@ pub names_with_word : (text : List ℕ) (ws : List spec.Word) (from i : ℕ) →
     ≡ first_occurrences [] (d ++ words (between text ws from (i + 1)))
 names_with_word text ws from i from_le_i i_lt_length d =
     grind (arith, common_steps, names_declared, append_assoc, words_between_push)
-
--- ---- a statement's symbols: those of a formula as they are judged, the others once declared
-
--- the numbers that are added in these two steps are those of the statement's formula
-pub formula_split : (db : List Statement) (s : Statement)
-    → judged (symbol_names db) s ++ unjudged (symbol_names (db ++ s ∷ [])) s
-    ≡ formula_of (db ++ s ∷ []) s
-formula_split db s = grind (arith, common_steps, append-nil, symbol_names_unchanged)
-
--- a statement leaves no fewer names
-pub symbol_names_no_shorter : (db : List Statement) (s : Statement)
-    → length (symbol_names db) ≤ length (symbol_names (db ++ s ∷ []))
-symbol_names_no_shorter db s =
-    let names_grow = symbol_names_grow db s in search (rules, arith, length-append)
-
--- numbers to which a statement's are added in the two steps are followed by its formula
-pub taken_numbers : (db : List Statement) (s : Statement) (numbers mid added : List ℕ)
-    → (before after : List Bytes)
-    → before ≡ symbol_names db → after ≡ symbol_names (db ++ s ∷ [])
-    → mid ≡ numbers ++ judged before s → added ≡ mid ++ unjudged after s
-    → added ≡ numbers ++ formula_of (db ++ s ∷ []) s
-taken_numbers db s numbers mid added before after before_is after_is mid_is more_is =
-    grind (arith, common_steps, append_assoc, formula_split)

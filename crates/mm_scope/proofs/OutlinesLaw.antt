@@ -12,7 +12,7 @@ use Rattle.mm_scope.specs.Outlines.{AreOutlinesFrom, IsRest}
 use Rattle.mm_scope.specs.declared.outlines.Rest.{Rest}
 
 -- the elements from one on are this one and the later ones
-from_element : {A : Type 0} (xs : List A) (i : ℕ) (default : A) → i < length xs
+pub from_element : {A : Type 0} (xs : List A) (i : ℕ) (default : A) → i < length xs
     → drop i xs ≡ slice_index_or xs i default ∷ drop (i + 1) xs
 from_element [] i default i_lt_length = absurd (omega (arith, i_lt_length))
 from_element (x ∷ xs) zero default i_lt_length = refl

@@ -1,6 +1,6 @@
 -- What is known after some statements.
 use Rattle.std.specs.Prelude.{◌≡◌, ℕ, ◌<◌, ◌^◌, List, [], ◌∷◌, ◌++◌, length, Option, None, flat_map}
-use Rattle.std.specs.Prelude.{is_some, true, ◌≢◌}
+use Rattle.std.specs.Prelude.{is_some, take, true, ◌≢◌}
 use Rattle.mm_spec.specs.Statement.{is_closing, Statement}
 use Rattle.mm_spec.specs.Scope.{depth, label_words, names_before}
 use Rattle.mm_spec.specs.Lawful.{least, scope_fault, scope_faults}
@@ -46,31 +46,37 @@ pub record IsReadSoFar (db : List Statement) (k : ReadSoFar) : Type 0 where
   pub formulas : AreFormulas db k.symbols k.ends
 
 module _ {A : Type 0} where
-  abbrev pub read_so_far : Outlined A → ReadSoFar
-  read_so_far r = record {
+  -- with these symbols
+  abbrev pub read_with : List ℕ → Outlined A → ReadSoFar
+  read_with symbols r = record {
     look = find r.scope.names.symbols;
     labels = find r.scope.names.labels;
     blocks = r.scope.blocks;
     names = names_of r.scope.names.symbols;
-    symbols = r.symbols.items;
+    symbols = symbols;
     ends = r.ends.items;
   }
 
+  abbrev pub read_so_far : Outlined A → ReadSoFar
+  read_so_far r = read_with r.symbols.items r
+
   -- after the next statement there is its fault; if it has none, the statement was added to what
-  -- had been read, otherwise nothing was. The statement's outline is `o`, and `r` is what has been
-  -- read after it.
+  -- had been read, otherwise nothing was. The statement's outline is `o`, `r` is what has been read
+  -- after it, and its symbols have the numbers from `first` up to `end`.
   pub record HasReadNext (text : List ℕ) (tokens : List Word) (before : List Outline)
-      (open_blocks : ℕ) (o : Outline) (r : Outlined A) : Type 0 where
-    pub fault : r.fault
-        ≡ least (scope_faults (names_before (statements text tokens before) (length before))
-        open_blocks
-        (statement_of text tokens o))
-    pub if_lawful : r.fault ≡ None
-        → (r.outlines.items ≡ before ++ o ∷ [])
-        × IsReadSoFar (statements text tokens before ++ statement_of text tokens o ∷ [])
-        (read_so_far r)
-    pub if_unlawful : r.fault ≢ None
-        → (r.outlines.items ≡ before) × IsReadSoFar (statements text tokens before) (read_so_far r)
+      (open_blocks : ℕ) (o : Outline) (numbers : List ℕ) (first end : ℕ) (r : Outlined A) : Type 0
+    where
+      pub fault : r.fault
+          ≡ least (scope_faults (names_before (statements text tokens before) (length before))
+          open_blocks
+          (statement_of text tokens o))
+      pub if_lawful : r.fault ≡ None
+          → (r.outlines.items ≡ before ++ o ∷ [])
+          × IsReadSoFar (statements text tokens before ++ statement_of text tokens o ∷ [])
+          (read_with (take end numbers) r)
+      pub if_unlawful : r.fault ≢ None
+          → (r.outlines.items ≡ before)
+          × IsReadSoFar (statements text tokens before) (read_with (take first numbers) r)
 
   -- the symbols of each statement
   abbrev pub formulas_of : Outlined A → List (List ℕ)
@@ -91,4 +97,3 @@ pub record MayTake (db : List Statement) (open_blocks : ℕ) (s : Statement) : T
   pub few_statements : length db < 2 ^ 31
   pub open_blocks_is_depth : open_blocks ≡ depth db (length db)
   pub closes_open_block : is_closing s ≡ true → 0 < depth db (length db)
-  pub few_names : length (symbol_names (db ++ s ∷ [])) < 2 ^ 31

@@ -1,5 +1,6 @@
 -- What a scope says of words, of statements and of the names before the next statement.
 use Rattle.std.specs.Prelude.{◌≡◌, ◌<◌, ◌+◌, ℕ, List, [], ◌∷◌, ◌++◌, length, Option, None, true}
+use Rattle.std.specs.Prelude.{slice_get}
 use Rattle.mm_spec.specs.Text.{words}
 use Rattle.mm_spec.specs.Statement.{Statement, is_closing}
 use Rattle.mm_spec.specs.Scope.{Names, names_before, depth, constants_of, variables_of}
@@ -7,7 +8,7 @@ use Rattle.mm_spec.specs.Lawful.{faults_at, least, scope_faults}
 use Rattle.mm_spec.specs.declared.Code.{Code}
 use Rattle.mm_spec.specs.declared.Fault.{Fault}
 use Rattle.mm_spec.specs.declared.Word.{Word}
-use Rattle.mm_spec.specs.Frame.{first_occurrences}
+use Rattle.mm_spec.specs.Frame.{first_occurrences, index_of}
 use Rattle.mm_outline.specs.Blocks.{is_open_in}
 use Rattle.mm_outline.specs.Parts.{AreWithin, IsOutline, between}
 use Rattle.mm_outline.specs.declared.parts.Outline.{Outline}
@@ -38,6 +39,12 @@ MayFollow db s =
     (least (scope_faults (names_before db (length db)) (depth db (length db)) s) ≡ None)
     × (is_closing s ≡ true → 0 < depth db (length db))
 
+-- what is known of each symbol stands at its number, and nothing behind that
+pub record AreKnownAt (names : List (List ℕ)) (look : List ℕ → Option SymbolEntry)
+    (known : List SymbolEntry) : Type 0 where
+  pub count : length known ≡ length names
+  pub entry : (w : List ℕ) → look w ≡ slice_get known (index_of w names)
+
 module _ {A : Type 0} where
   -- what is known of a word as a symbol, the statement of a label, and the names of the symbols
   abbrev pub symbol_in : Scope A → List ℕ → Option SymbolEntry
@@ -51,6 +58,11 @@ module _ {A : Type 0} where
 
   abbrev pub names_in : Scope A → List (List ℕ)
   names_in s = names_of s.names.symbols
+
+  -- what is known of each symbol stands at its number
+  abbrev pub AreKnown : Scope A → Type 0
+  AreKnown s =
+      AreKnownAt (names_in s) (symbol_in s) s.known.items
 
   -- the scope is that after these statements
   abbrev pub IsScopeAfter : List Statement → Scope A → Type 0

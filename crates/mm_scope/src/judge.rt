@@ -3,15 +3,16 @@
 ghost use Rattle.std.specs.Prelude.{◌≡◌, ◌<◌, ◌≤◌, ◌++◌, [], length, OnOk, IfOk, ◌^◌, false, true};
 ghost use Rattle.std.specs.Prelude.{◌+◌, ◌-◌, ℕ, List, is_some, Some, if◌then◌else◌, bytes_eq};
 ghost use Rattle.mm_spec.specs.Text.{is_in, words};
+ghost use Rattle.mm_spec.specs.Statement.{symbols_of};
 ghost use Rattle.mm_database.specs.Names.{find};
-ghost use Rattle.mm_scope.specs.Formulas.{judged, numbers_in};
+ghost use Rattle.mm_scope.specs.Formulas.{AreNumbersOnward};
 ghost use Rattle.mm_spec.specs.Lawful.{faults_at, faults_at_each, least, when, symbol_codes};
 ghost use Rattle.mm_spec.specs.Lawful.{formula_faults, floating_faults, label_faults, scope_faults};
 ghost use Rattle.mm_spec.specs.Scope.{Names as DeclaredNames};
 ghost use Rattle.mm_spec.specs.declared.Fault.{Fault as SpecFault};
 ghost use Rattle.mm_outline.specs.Parts.{AreWithin, between, nth_word, token_at, statement_of};
 ghost use Rattle.mm_scope.specs.Knows.{fault_at, listed_codes, lists_symbols};
-ghost use Rattle.mm_scope.specs.Scopes.{IsOutlineAmong, IsLeastFault, names_in};
+ghost use Rattle.mm_scope.specs.Scopes.{AreKnown, IsLeastFault, IsOutlineAmong, names_in};
 
 use crate::scope::Scope;
 use mm_database::name_map::NameMap;
@@ -21,39 +22,37 @@ use mm_spec::{Code, Fault, Word};
 use std::alloc::{AllocError, Allocator};
 
 impl<'a, A: Allocator + Copy> Scope<'a, A> {
-    /// Returns the first fault of the symbols of a formula after its typecode, and appends their
-    /// numbers.
+    /// Returns the first fault of the symbols of a formula after its typecode. `numbers` has the
+    /// numbers of the symbols from the token `first` on.
     fn symbols_fault(
         &self,
-        text: &[u8],
+        _text: &[u8],
         tokens: &[Word],
+        first: u32,
         from: u32,
         to: u32,
-        numbers: &mut Vec<Sym, A>,
-    ) -> Result<Option<Fault>, AllocError>
-        requires tokens_within { AreWithin text.now tokens.now }
+        numbers: &[Sym],
+    ) -> Option<Fault>
+        requires are_known { AreKnown self.now }
+        requires first_le_from { first ≤ from }
         requires from_le_to { from ≤ to }
         requires to_le_length { to ≤ length tokens.now }
-        requires few_names { length (names_in self.now) < 2 ^ 31 }
-        ensures fault_is_least { IfOk result
-            (IsLeastFault self.now
-            (λ n. faults_at_each (symbol_codes n) [] (between text.now tokens.now from to))) }
-        ensures numbers_are_added { OnOk result
-            (numbers.new.items
-            ≡ numbers.old.items
-            ++ numbers_in (names_in self.now) (between text.now tokens.now from to)) }
+        requires are_numbers { AreNumbersOnward (names_in self.now)
+            (between _text.now tokens.now first to) numbers.now }
+        ensures { IsLeastFault self.now
+            (λ n. faults_at_each (symbol_codes n) [] (between _text.now tokens.now from to))
+            result }
     {
         let mut least_found = None;
         for token_index in from..to {
+            let symbol = self.symbol_at(numbers[(token_index - first) as usize]);
             let token = tokens[token_index as usize];
-            let (number, symbol) = self.names.numbered(token.bytes(text));
-            numbers.push(Sym::new(number as u32))?;
             least_found = lesser(
                 least_found,
                 fault_with_code(token.start, self.symbol_code(symbol)),
             );
         }
-        Ok(least_found)
+        least_found
     }
 
     /// Returns the first fault of the symbols of a `$c`, `$v` or `$d`.
@@ -86,38 +85,33 @@ impl<'a, A: Allocator + Copy> Scope<'a, A> {
         Ok(least_found)
     }
 
-    /// Returns the first fault of a formula, which ends at the token `to`, and appends the numbers
-    /// of its symbols.
+    /// Returns the first fault of a formula, which ends at the token `to`. `numbers` has the
+    /// numbers of its symbols.
     fn formula_fault(
         &self,
         text: &[u8],
         tokens: &[Word],
         from: u32,
         to: u32,
-        numbers: &mut Vec<Sym, A>,
-    ) -> Result<Option<Fault>, AllocError>
-        requires tokens_within { AreWithin text.now tokens.now }
+        numbers: &[Sym],
+    ) -> Option<Fault>
+        requires are_known { AreKnown self.now }
         requires from_le_to { from ≤ to }
         requires to_lt_length { to < length tokens.now }
-        requires few_names { length (names_in self.now) < 2 ^ 31 }
-        ensures fault_is_least { IfOk result
-            (IsLeastFault self.now
+        requires are_numbers { AreNumbersOnward (names_in self.now)
+            (between text.now tokens.now from to) numbers.now }
+        ensures { IsLeastFault self.now
             (λ n. formula_faults n (between text.now tokens.now from to)
-            (nth_word tokens.now to).start)) }
-        ensures numbers_are_added { OnOk result
-            (numbers.new.items
-            ≡ numbers.old.items
-            ++ numbers_in (names_in self.now) (between text.now tokens.now from to)) }
+            (nth_word tokens.now to).start) result }
     {
         if from == to {
-            return Ok(fault_with_code(tokens[to as usize].start, Some(Code::BadTypecode)));
+            return fault_with_code(tokens[to as usize].start, Some(Code::BadTypecode));
         }
+        let symbol = self.symbol_at(numbers[0]);
         let token = tokens[from as usize];
-        let (number, symbol) = self.names.numbered(token.bytes(text));
-        numbers.push(Sym::new(number as u32))?;
         let fault_of_typecode = fault_with_code(token.start, Self::typecode_fault_code(symbol));
-        let fault_of_symbols = self.symbols_fault(text, tokens, from + 1, to, numbers)?;
-        Ok(lesser(fault_of_typecode, fault_of_symbols))
+        let fault_of_symbols = self.symbols_fault(text, tokens, from, from + 1, to, numbers);
+        lesser(fault_of_typecode, fault_of_symbols)
     }
 
     /// Returns the fault of the label at the token `token_index`.
@@ -197,8 +191,8 @@ impl<'a, A: Allocator + Copy> Scope<'a, A> {
         }
     }
 
-    /// Returns the least fault of the next statement, and appends the numbers of the symbols of a
-    /// `$e`, `$a` or `$p`. `depth` is the number of blocks that are open.
+    /// Returns the least fault of the next statement. `depth` is the number of blocks that are
+    /// open, and `numbers` has the numbers of the statement's symbols.
     pub(crate) fn fault(
         &self,
         alloc: A,
@@ -206,23 +200,19 @@ impl<'a, A: Allocator + Copy> Scope<'a, A> {
         tokens: &[Word],
         depth: u32,
         outline: Outline,
-        numbers: &mut Vec<Sym, A>,
+        numbers: &[Sym],
     ) -> Result<Option<Fault>, AllocError>
         requires is_among_tokens { IsOutlineAmong text.now tokens.now outline }
-        requires few_names { length (names_in self.now) < 2 ^ 31 }
-        ensures numbers_are_added { OnOk result
-            (numbers.new.items
-            ≡ numbers.old.items
-            ++ judged (names_in self.now)
-            (statement_of text.now tokens.now outline)) }
-        ensures fault_is_least { IfOk result
+        requires are_known { AreKnown self.now }
+        requires are_numbers { AreNumbersOnward (names_in self.now)
+            (symbols_of (statement_of text.now tokens.now outline)) numbers.now }
+        ensures { IfOk result
             (IsLeastFault self.now
             (λ n. scope_faults n depth (statement_of text.now tokens.now outline))) }
     {
-        let kind = outline.kind;
         let keyword = outline.keyword;
         let middle = outline.middle;
-        match kind {
+        match outline.kind {
             Kind::Open => Ok(None),
             Kind::Close => Ok(None),
             Kind::Constants => self.listing_fault(alloc, text, tokens, depth, outline),
@@ -235,41 +225,37 @@ impl<'a, A: Allocator + Copy> Scope<'a, A> {
                     self.floating_fault(text, tokens, keyword, middle),
                 ))
             }
-            Kind::Essential => self.labelled_fault(text, tokens, outline, numbers),
-            Kind::Axiom => self.labelled_fault(text, tokens, outline, numbers),
-            Kind::Theorem => self.labelled_fault(text, tokens, outline, numbers),
+            Kind::Essential => Ok(self.labelled_fault(text, tokens, outline, numbers)),
+            Kind::Axiom => Ok(self.labelled_fault(text, tokens, outline, numbers)),
+            Kind::Theorem => Ok(self.labelled_fault(text, tokens, outline, numbers)),
         }
     }
 
-    /// Returns the least fault of a label and a formula, and appends the numbers of the formula's
+    /// Returns the least fault of a label and a formula. `numbers` has the numbers of the formula's
     /// symbols.
     fn labelled_fault(
         &self,
         text: &[u8],
         tokens: &[Word],
         outline: Outline,
-        numbers: &mut Vec<Sym, A>,
-    ) -> Result<Option<Fault>, AllocError>
+        numbers: &[Sym],
+    ) -> Option<Fault>
         requires is_among_tokens { IsOutlineAmong text.now tokens.now outline }
         requires keyword_gt_0 { 0 < outline.keyword }
         requires keyword_lt_middle { outline.keyword < outline.middle }
-        requires few_names { length (names_in self.now) < 2 ^ 31 }
-        ensures fault_is_least { IfOk result
-            (IsLeastFault self.now
+        requires are_known { AreKnown self.now }
+        requires are_numbers { AreNumbersOnward (names_in self.now)
+            (between text.now tokens.now (outline.keyword + 1) outline.middle) numbers.now }
+        ensures { IsLeastFault self.now
             (λ n. label_faults n (token_at text.now tokens.now (outline.keyword - 1))
             ++ formula_faults n
             (between text.now tokens.now (outline.keyword + 1) outline.middle)
-            (nth_word tokens.now outline.middle).start)) }
-        ensures numbers_are_added { OnOk result
-            (numbers.new.items
-            ≡ numbers.old.items
-            ++ numbers_in (names_in self.now)
-            (between text.now tokens.now (outline.keyword + 1) outline.middle)) }
+            (nth_word tokens.now outline.middle).start) result }
     {
         let fault_of_label = self.label_fault(text, tokens, outline.keyword - 1);
         let from = outline.keyword + 1;
-        let fault_of_formula = self.formula_fault(text, tokens, from, outline.middle, numbers)?;
-        Ok(lesser(fault_of_label, fault_of_formula))
+        let fault_of_formula = self.formula_fault(text, tokens, from, outline.middle, numbers);
+        lesser(fault_of_label, fault_of_formula)
     }
 
     /// Returns the least fault of a `$c`, `$v` or `$d`.

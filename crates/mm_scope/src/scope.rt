@@ -1,7 +1,7 @@
 //! The names and the blocks before a statement, what they say of a word, and those after it.
 
 ghost use Rattle.std.specs.Prelude.{◌≡◌, ◌<◌, ◌+◌, ◌-◌, ◌^◌, ◌∷◌, ◌++◌, [], ℕ, List, Some};
-ghost use Rattle.std.specs.Prelude.{length, not, true, OnOk};
+ghost use Rattle.std.specs.Prelude.{length, not, true, OnOk, bytes_eq, if◌then◌else◌, slice_get};
 ghost use Rattle.mm_spec.specs.Text.{is_in, token};
 ghost use Rattle.mm_spec.specs.Statement.{Statement, label_of};
 ghost use Rattle.mm_spec.specs.Lawful.{faults_at, is_typed, is_typed_otherwise, least, when};
@@ -10,17 +10,19 @@ ghost use Rattle.mm_spec.specs.Lawful.{label_faults, floating_faults};
 ghost use Rattle.mm_spec.specs.declared.Code.TheVariants.{BadTypecode, TypedBefore, OtherTypecode};
 ghost use Rattle.mm_outline.specs.Blocks.{is_open_in};
 ghost use Rattle.mm_outline.specs.Parts.{AreWithin, token_at, statement_of};
-ghost use Rattle.mm_database.specs.Names.{find as find_in, is_constant_in};
+ghost use Rattle.mm_database.specs.Names.{find as find_in, is_constant_in, with_name};
 ghost use Rattle.mm_scope.specs.Knows.{is_active_symbol, fault_at, listed_codes, typing_fault};
 ghost use Rattle.mm_scope.specs.WordEntry.{after_declaring, after_typing, declared_entry, entry_of};
 ghost use Rattle.mm_scope.specs.WordEntry.{entry_after, label_after};
-ghost use Rattle.mm_scope.specs.Scopes.{Declares, IsOutlineAmong, IsLeastCode, IsLeastFault};
+ghost use Rattle.mm_scope.specs.Scopes.{AreKnown, Declares, IsLeastCode, IsLeastFault};
+ghost use Rattle.mm_scope.specs.Scopes.{IsOutlineAmong};
 ghost use Rattle.mm_scope.specs.Scopes.{IsScopeAfter, IsNextScope, declared_words, listed_words};
 ghost use Rattle.mm_scope.specs.Scopes.{symbol_in, word_entry_in, label_in, names_in};
 
 use mm_database::names::{NameTable, SymbolEntry};
 use mm_outline::blocks::{Blocks, NEVER};
 use mm_outline::parts::{Kind, Outline};
+use mm_outline::symbol::Sym;
 use mm_spec::{Code, Word};
 use std::alloc::{AllocError, Allocator};
 
@@ -28,6 +30,8 @@ use std::alloc::{AllocError, Allocator};
 #[derive(Drop)]
 pub struct Scope<'a, A: Allocator> {
     pub names: NameTable<'a, A>,
+    /// What is known of each symbol, by its number.
+    pub known: Vec<SymbolEntry<'a>, A>,
     pub blocks: Blocks<A>,
 }
 
@@ -44,6 +48,38 @@ impl<'a, A: Allocator + Copy> Scope<'a, A> {
         ensures { result ≡ is_open_in self.now.blocks symbol.entry.typing }
     {
         self.blocks.is_still_open(symbol.typing)
+    }
+
+    /// Returns what is known of the symbol with this number, or `None` if no symbol has it yet.
+    #[inline(always)]
+    pub(crate) fn symbol_at(&self, number: Sym) -> Option<SymbolEntry<'a>>
+        ensures { result ≡ slice_get self.now.known.items number }
+    {
+        self.known.get(number.number() as usize).copied()
+    }
+
+    /// Sets what is known of a symbol. A new symbol gets the next number.
+    fn set_symbol(&mut self, word: &'a [u8], symbol: SymbolEntry<'a>) -> Result<(), AllocError>
+        requires are_known { AreKnown self.old }
+        ensures are_known { OnOk result (AreKnown self.new) }
+        ensures symbol_is_set { OnOk result
+            ((w : List ℕ)
+            → symbol_in self.new w
+            ≡ (if bytes_eq word.now w then Some symbol.entry else symbol_in self.old w)) }
+        ensures labels_stay { OnOk result
+            ((w : List ℕ) → label_in self.new w ≡ label_in self.old w) }
+        ensures name_is_added { OnOk result
+            (names_in self.new ≡ with_name word.now (names_in self.old)) }
+        ensures blocks_stay { self.new.blocks ≡ self.old.blocks }
+    {
+        let (number, _) = self.names.numbered(word);
+        self.names.set_symbol(word, symbol)?;
+        if number < self.known.len() {
+            self.known[number] = symbol;
+        } else {
+            self.known.push(symbol)?;
+        }
+        Ok(())
     }
 
     /// Returns what is wrong with a word as a symbol of a formula after the typecode. `word_symbol`
@@ -212,6 +248,8 @@ impl<'a, A: Allocator + Copy> Scope<'a, A> {
         requires few_tokens { length tokens.now < 2 ^ 31 }
         requires is_scope_after { (db : List Statement)
             × IsScopeAfter db self.old × (length db < 2 ^ 31) }
+        requires are_known { AreKnown self.old }
+        ensures are_known { OnOk result (AreKnown self.new) }
         ensures is_next_scope { OnOk result
             (IsNextScope self.old self.new (statement_of text.now tokens.now outline)) }
         ensures names_are_declared { OnOk result
@@ -233,6 +271,8 @@ impl<'a, A: Allocator + Copy> Scope<'a, A> {
     ) -> Result<(), AllocError>
         requires is_among_tokens { IsOutlineAmong text.now tokens.now outline }
         requires few_tokens { length tokens.now < 2 ^ 31 }
+        requires are_known { AreKnown self.old }
+        ensures are_known { OnOk result (AreKnown self.new) }
         ensures symbols_are_added { OnOk result
             ((w : List ℕ)
             → word_entry_in self.new w
@@ -289,6 +329,7 @@ impl<'a, A: Allocator + Copy> Scope<'a, A> {
             ≡ label_after statement (Some (token_at text.now tokens.now (keyword - 1))) w
             (label_in self.old w)) }
         ensures symbols_stay { OnOk result (self.new.names.symbols ≡ self.old.names.symbols) }
+        ensures known_stay { self.new.known ≡ self.old.known }
         ensures blocks_stay { self.new.blocks ≡ self.old.blocks }
     {
         let token = tokens[keyword as usize - 1];
@@ -305,6 +346,8 @@ impl<'a, A: Allocator + Copy> Scope<'a, A> {
     ) -> Result<(), AllocError>
         requires tokens_within { AreWithin text.now tokens.now }
         requires next_lt_length { from + 1 < length tokens.now }
+        requires are_known { AreKnown self.old }
+        ensures are_known { OnOk result (AreKnown self.new) }
         ensures labels_stay { OnOk result
             ((w : List ℕ) → label_in self.new w ≡ label_in self.old w) }
         ensures variable_is_typed { OnOk result
@@ -328,7 +371,7 @@ impl<'a, A: Allocator + Copy> Scope<'a, A> {
                     typing: statement,
                     typecode,
                 };
-                self.names.set_symbol(word, symbol)
+                self.set_symbol(word, symbol)
             }
             None => Ok(()),
         }
@@ -345,6 +388,8 @@ impl<'a, A: Allocator + Copy> Scope<'a, A> {
     ) -> Result<(), AllocError>
         requires is_among_tokens { IsOutlineAmong text.now tokens.now outline }
         requires keyword_lt_middle { outline.keyword < outline.middle }
+        requires are_known { AreKnown self.old }
+        ensures are_known { OnOk result (AreKnown self.new) }
         ensures labels_stay { OnOk result
             ((w : List ℕ) → label_in self.new w ≡ label_in self.old w) }
         ensures symbols_are_declared { OnOk result
@@ -360,7 +405,7 @@ impl<'a, A: Allocator + Copy> Scope<'a, A> {
             let token = tokens[token_index as usize];
             let word = token.bytes(text);
             let symbol = declared_symbol(&self.names, is_variable, statement, word);
-            self.names.set_symbol(word, symbol)?;
+            self.set_symbol(word, symbol)?;
         }
         Ok(())
     }

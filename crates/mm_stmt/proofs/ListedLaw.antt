@@ -13,6 +13,9 @@ use Rattle.mm_outline.proofs.TokensLaw.{tokens_are_in_text, tokens_are_told_by_f
 use Rattle.mm_outline.proofs.TokensLaw.{tokens_lt_2_31, tokens_rise, faultless_text_fits_limit}
 use Rattle.mm_scope.specs.Outlines.{AreOutlinesFrom}
 use Rattle.mm_scope.specs.declared.outlines.Rest.{Rest}
+use Rattle.mm_spec.specs.Frame.{symbol_names}
+use Rattle.mm_outline.specs.Statements.{statements}
+use Rattle.mm_scope.proofs.NumberingLaw.{few_names}
 use Rattle.mm_scope.proofs.OutlinesLaw.{outlines_are_within, outlines_le_tokens}
 
 module _ (text : List ℕ) (ws : List Word) (words_are_tokens : ws ≡ tokens_of text) where
@@ -42,6 +45,9 @@ module _ (text : List ℕ) (ws : List Word) (words_are_tokens : ws ≡ tokens_of
         let le_tokens = outlines_le_tokens text ws rest 0 0 os are_found (omega arith) in
         let words_lt_2_31 = few_words in
         omega (arith, le_tokens, words_lt_2_31)
+
+    pub few_are_named : length (symbol_names (statements text ws os)) < 2 ^ 31
+    few_are_named = few_names text ws rest os are_found few_words
 
     pub first_are_within : (first : List Outline) → first ≡ take (length first) os
         → All (λ o. IsOutline o × (o.end < length ws)) first

@@ -11,6 +11,7 @@ use Rattle.mm_outline.specs.Statements.{lexed, statements}
 use Rattle.mm_outline.specs.declared.parts.Outline.{Outline}
 use Rattle.mm_database.specs.Database.{AreStatementLists}
 use Rattle.mm_database.specs.RetainedWords.{retained_words}
+use Rattle.mm_scope.specs.Formulas.{AreNumbersOf}
 use Rattle.mm_scope.specs.Outlines.{AreOutlinesFrom}
 use Rattle.mm_scope.specs.ReadSoFar.{IsReadSoFar, read_so_far}
 use Rattle.mm_scope.specs.declared.outlines.Rest.{Rest}
@@ -24,14 +25,15 @@ pub record CanList (text : List ℕ) (ws : List Word) (os : List Outline) : Type
   pub few_outlines : length os < 2 ^ 31
 
 -- the words are tokens of the text, which has few of them and few bytes, and these are the outlines
--- that are found of their statements
+-- that are found of their statements, and the numbers of their symbols
 pub record CanRead (text : List ℕ) (ws : List Word) (fault : Option Fault) (os : List Outline)
-    (rest : Rest) : Type 0 where
+    (rest : Rest) (numbers : List ℕ) : Type 0 where
   pub words_are_within : AreWithin text ws
   pub are_tokens : AreTokens text ws
   pub few_tokens : length ws < 2 ^ 31
   pub few_bytes : fault ≡ None → length text < 2 ^ 31
   pub are_found : AreOutlinesFrom text ws 0 0 os rest
+  pub are_numbers : AreNumbersOf (statements text ws os) numbers
 
 module _ {A : Type 0} where
   -- this was read of the text, whose statements have these outlines

@@ -10,6 +10,8 @@ use crate::statement_lists::list_statements;
 use mm_database::statement_lists::StatementLists;
 use mm_lists::Lists;
 use mm_outline::parts::Outline;
+use mm_scope::keys::{keys_in_stretches, keys_of};
+use mm_scope::numbering::{numbers_in_stretches, numbers_of};
 use mm_scope::outlines::outlines_of;
 use mm_scope::reading::{Outlined, read_outlines};
 use mm_scope::stretches::outlines_in_stretches;
@@ -56,14 +58,17 @@ pub(crate) fn read_listed_alone<'a, A: Allocator + Copy>(
     ensures { IfOk result (λ r. IsReadWith text.now tokens.now with_open r.0 r.1) }
 {
     let (outlines, rest) = outlines_of(alloc, text, tokens)?;
-    let outlined = read_outlines(alloc, text, tokens, fault, &outlines, rest)?;
+    let all = outlines.as_slice();
+    let keys = keys_of(alloc, text, tokens, all)?;
+    let numbers = numbers_of(alloc, keys, text, tokens, all)?;
+    let outlined = read_outlines(alloc, keys, text, tokens, fault, all, rest, numbers)?;
     let listed = list_outlined(alloc, text, tokens, &outlined.outlines, with_open)?;
     Ok((outlined, listed))
 }
 
-/// The same, but as many threads as there are workers find where the statements are. Then another
-/// thread lists the statements while this one judges them. It lists them all. Where one isn't
-/// lawful, those before it are listed again.
+/// The same, but as many threads as there are workers find where the statements are, and number
+/// their symbols. Then another thread lists the statements while this one judges them. It lists
+/// them all. Where one isn't lawful, those before it are listed again.
 pub(crate) fn read_listed<'a, R: Threads + Sync, A: Allocator + Copy + Send + Sync>(
     rt: &R,
     alloc: A,
@@ -80,6 +85,8 @@ pub(crate) fn read_listed<'a, R: Threads + Sync, A: Allocator + Copy + Send + Sy
 {
     let (outlines, rest) = outlines_in_stretches(rt, alloc, text, tokens, workers)?;
     let all = outlines.as_slice();
+    let keys = keys_in_stretches(rt, alloc, text, tokens, all, workers)?;
+    let numbers = numbers_in_stretches(rt, alloc, keys, text, tokens, all, workers)?;
     let (listed, outlined) = thread::join(
         rt,
         || -> Result<Listed<A>, AllocError>
@@ -88,10 +95,10 @@ pub(crate) fn read_listed<'a, R: Threads + Sync, A: Allocator + Copy + Send + Sy
                 (IsListed text.entry.now tokens.entry.now all.entry.now with_open) }
         { list_outlined(alloc, text, tokens, all, with_open) },
         || -> Result<Outlined<A>, AllocError>
-            requires { CanRead text.now tokens.now fault all.now rest }
+            requires { CanRead text.now tokens.now fault all.now rest numbers.items }
             ensures { IfOk result
                 (IsReadOf text.entry.now tokens.entry.now fault all.entry.now) }
-        { read_outlines(alloc, text, tokens, fault, all, rest) },
+        { read_outlines(alloc, keys, text, tokens, fault, all, rest, numbers) },
     );
     let outlined = outlined?;
     let listed = if outlined.outlines.len() == all.len() {

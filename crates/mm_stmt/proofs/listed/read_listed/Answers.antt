@@ -6,7 +6,7 @@ use Rattle.mm_spec.specs.Output.{IsRead}
 use Rattle.mm_outline.specs.Statements.{lexed, statements}
 use Rattle.mm_stmt.proofs.ListedLaw.{words_are_within, words_are_told, words_rise, few_words}
 use Rattle.mm_stmt.proofs.ListedLaw.{few_bytes}
-use Rattle.mm_stmt.proofs.ListedLaw.{first_are_within, all_are_within, few_are_found}
+use Rattle.mm_stmt.proofs.ListedLaw.{first_are_within, all_are_within, few_are_found, few_are_named}
 use Rattle.mm_stmt.proofs.listed.read_listed.Goals as goal
 use Rattle.mm_stmt.proofs.listed.read_listed.Goals.{then-len-all+in_ok-listed}
 use Rattle.mm_stmt.proofs.listed.read_listed.Goals.{else-len-all+in_ok-listed-2}
@@ -25,6 +25,37 @@ pub outlines_in_stretches-requires-clause-few_tokens :
     goal.outlines_in_stretches-requires-clause-few_tokens
 outlines_in_stretches-requires-clause-few_tokens g c κs bounds =
     few_words c.args.text.now c.args.tokens.now c.requires.are_tokens
+
+pub numbers_in_stretches-requires-clause-tokens_within :
+    goal.numbers_in_stretches-requires-clause-tokens_within
+numbers_in_stretches-requires-clause-tokens_within g c κs bounds =
+    words_are_within c.args.text.now c.args.tokens.now c.requires.are_tokens
+
+pub numbers_in_stretches-requires-clause-are_outlines :
+    goal.numbers_in_stretches-requires-clause-are_outlines
+numbers_in_stretches-requires-clause-are_outlines g c κs bounds =
+    rw c.as_slice-all.ensures.value
+    (all_are_within c.args.text.now c.args.tokens.now c.requires.are_tokens
+    c.in_ok-outlines.outlines.items c.in_ok-outlines.rest c.in_ok-outlines.ensures)
+
+pub numbers_in_stretches-requires-clause-few_tokens :
+    goal.numbers_in_stretches-requires-clause-few_tokens
+numbers_in_stretches-requires-clause-few_tokens g c κs bounds =
+    few_words c.args.text.now c.args.tokens.now c.requires.are_tokens
+
+pub numbers_in_stretches-requires-clause-few_outlines :
+    goal.numbers_in_stretches-requires-clause-few_outlines
+numbers_in_stretches-requires-clause-few_outlines g c κs bounds =
+    rw c.as_slice-all.ensures.value
+    (few_are_found c.args.text.now c.args.tokens.now c.requires.are_tokens
+    c.in_ok-outlines.outlines.items c.in_ok-outlines.rest c.in_ok-outlines.ensures)
+
+pub numbers_in_stretches-requires-clause-few_names :
+    goal.numbers_in_stretches-requires-clause-few_names
+numbers_in_stretches-requires-clause-few_names g c κs bounds =
+    rw c.as_slice-all.ensures.value
+    (few_are_named c.args.text.now c.args.tokens.now c.requires.are_tokens
+    c.in_ok-outlines.outlines.items c.in_ok-outlines.rest c.in_ok-outlines.ensures)
 
 pub join-listed-requires-after_bounds : goal.join-listed-requires-after_bounds
 join-listed-requires-after_bounds g c lives bounds =
@@ -47,6 +78,7 @@ join-listed-requires-after_bounds g c lives bounds =
         few_tokens = few_words text ws words_are_tokens;
         few_bytes = few_bytes text c.args.fault c.requires.fault_is;
         are_found = rw all_are c.in_ok-outlines.ensures;
+        are_numbers = c.in_ok-numbers.ensures;
       },
     )
 

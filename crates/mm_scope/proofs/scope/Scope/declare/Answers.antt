@@ -24,7 +24,7 @@ loop-token_index-preserved g c =
           c.loop-token_index.token_index from_le_index
           index_lt_length c.args.is_variable c.args.statement c.declared_symbol-symbol.result
           (find c.args.self.now.names.symbols) (find c.loop-token_index.self.names.symbols)
-          (find c.set_symbol.new.self.symbols)
+          (find c.set_symbol.new.self.names.symbols)
           (λ w. c.in_ok-set_symbol.ensures.symbol_is_set w
           ∙ ap (λ b. if bytes_eq b w then Some c.declared_symbol-symbol.result else
           find c.loop-token_index.self.names.symbols w) c.bytes-word.ensures)
@@ -32,7 +32,8 @@ loop-token_index-preserved g c =
           ∙ ap (λ b. declared_entry c.args.is_variable c.args.statement b
           (entry_of (find c.loop-token_index.self.names.symbols b))) c.bytes-word.ensures)
           invariant.symbols;
-      blocks = invariant.blocks;
+      blocks = c.set_symbol.ensures.blocks_stay ∙ invariant.blocks;
+      known = c.in_ok-set_symbol.ensures.are_known;
       names =
           λ d names_are_declared. c.in_ok-set_symbol.ensures.name_is_added
           ∙ ap₂ with_name c.bytes-word.ensures (invariant.names d names_are_declared)

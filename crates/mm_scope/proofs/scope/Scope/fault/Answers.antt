@@ -3,8 +3,8 @@ use Rattle.mm_spec.specs.Lawful.{least, scope_faults, floating_faults, label_fau
 use Rattle.mm_outline.specs.Parts.{token_at, nth_word, between, statement_between}
 use Rattle.mm_scope.proofs.scope.Scope.fault.Goals as goal
 
-pub returns-in-Floating-clause-fault_is_least : goal.returns-in-Floating-clause-fault_is_least
-returns-in-Floating-clause-fault_is_least g c = λ n are_names.
+pub returns-in-Floating : goal.returns-in-Floating
+returns-in-Floating g c = λ n are_names.
     let text = c.args.text.now in
     let ws = c.args.tokens.now in
     let o = c.args.outline in
