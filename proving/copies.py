@@ -43,7 +43,7 @@ def named_copies(crate: Crate, owners: Iterable[tuple[Edit, Function]]) -> list[
     """A copy for each edit, and one as it stands for each function that an edit changes.
 
     Of a function without proof files that is the function itself. A copy would differ from it by
-    its name alone, and mostly the check proves it in any case, since another function calls it.
+    its name alone, and mostly the check needs it in any case, since another function calls it.
     """
     copies: list[Copy] = []
     right: dict[tuple[str, int], Copy] = {}

@@ -23,6 +23,8 @@ Crate = Any
 
 # The kind of a result that is kept: an edit was refused.
 REFUSED = "refused"
+# How a library is kept. One that was kept as its statements alone has another key.
+HOW = "whole"
 # What was neither kept nor used for so long is removed.
 DAYS = 14
 SECONDS_A_DAY = 86_400
@@ -31,6 +33,8 @@ PARTS = ("src", "specs", "proofs")
 # What a check of a crate leaves in its folder `out`: the library, and programs. Those of the tests
 # have this ending, and stand by themselves.
 LIBRARY = "rlib"
+# In the folder of the library, beside it: what it was made from. `rt ci` leaves none.
+STAMP = "stamp"
 OF_TESTS = "_tests"
 
 
@@ -82,7 +86,7 @@ class Kept:
     def key(self, crate: Crate) -> str:
         """The sum of all that a crate is made from. The libraries below have to be there."""
         said = (crate.name, sorted(crate.said.items()), crate.allowed)
-        found = hashlib.sha256(repr((sum_of_toolchain(self.kit), said)).encode())
+        found = hashlib.sha256(repr((sum_of_toolchain(self.kit), HOW, said)).encode())
         for part in PARTS:
             found.update(repr((part, sum_of_folder(Path(crate.folder, part)))).encode())
         for each in crate.below():
@@ -182,6 +186,13 @@ def remove_made(out: Path, of_tests: bool) -> None:
             path.unlink()
 
 
+def mark_as_made(out: Path, of_tests: bool, at: float) -> None:
+    """Gives what was put there the time before its sources were read. A program is built anew where
+    it is older than its sources, and one that was kept is older than those of a fresh clone."""
+    for path in made_in(out, of_tests):
+        os.utime(path, (at, at))
+
+
 def copy_crates(top: str, to: str) -> None:
     """Copies the crates of a repository, without what was made of them."""
     os.makedirs(to)
@@ -199,12 +210,17 @@ def keep_what_is_proved(rt: Any) -> None:
     kept.sweep()
 
     def take_or_prove(crate: Crate, flags: list[str], tests: bool) -> int:
-        """Proves a crate, or its tests, as `rt ci` does, if this isn't kept."""
+        """Proves a crate, or its tests, as `rt ci` does, if this isn't kept. A library is built
+        whole, with its proofs, since the checks of its edits begin with them."""
+        begun = time.time()
         key = kept.key(crate)
         if kept.give(crate, tests, key):
+            mark_as_made(Path(crate.folder, "out"), tests, begun)
             rt.say("an earlier run proved the same files", crate.out)
             return 0
+        crate.cuts_libraries = False
         status = int(prove(crate, flags, tests))
+        Path(crate.folder, "out", LIBRARY, STAMP).unlink(missing_ok=True)
         if not status and kept.key(crate) == key:
             kept.keep(crate, tests, key)
         return status

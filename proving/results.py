@@ -23,6 +23,7 @@ JUDGES = (
     "functions",
     "keeping",
     "laws",
+    "seeds",
     "toolchain",
     "tree",
     "trial",

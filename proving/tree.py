@@ -37,7 +37,8 @@ class Tree:
         # The first call sets the handler of a signal, which the main thread alone may do.
         rt.rtlib.guarded()
         self.top = room / "repo"
-        rt.Crate.cuts_libraries = True
+        # Libraries are built as they are kept: by a toolchain that keeps nothing, whole.
+        rt.Crate.cuts_libraries = toolchain.keeps()
         crates = toolchain.copied_crates(str(top), str(self.top))
         self.crates: dict[str, Crate] = {crate.name: crate for crate in crates}
         self.kept = toolchain.kept(crates)

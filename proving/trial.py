@@ -15,6 +15,7 @@ from proving.copies import Copy, named_copies, texts_with
 from proving.edits import Edit
 from proving.functions import Function, can_be_copied, functions_of, owner_of
 from proving.laws import RIGHT, LawCopy, Modules, Reach, law_copies
+from proving.seeds import seed_of
 from proving.tree import Crate
 from proving.verdicts import Said, Span, is_part, is_proved, reason, reason_of_laws
 
@@ -167,10 +168,12 @@ class Trial:
 
     def check(self, texts: dict[str, bytes], only: list[str]) -> Said:
         """Checks these functions of the crate, and those that they call, with these texts in the
-        place of its own, from nothing. It is done once more if it was killed, most likely for
-        memory."""
-        said = checked(self.crate, texts, only)
-        if said.status == -signal.SIGKILL:
+        place of its own. It begins with what the crate's proof proved, and takes of that what is
+        still the same. It is done once more, from nothing, if it came to no end so, or if it was
+        killed, most likely for memory."""
+        with seed_of(self.crate) as seed:
+            said = checked(self.crate, texts, only, seed)
+        if said.status == -signal.SIGKILL or seed and not said.has_ended:
             said = checked(self.crate, texts, only)
         self.checks += 1
         self.seconds += said.seconds
@@ -214,10 +217,12 @@ def symbol_of(crate: Crate, function: Function, said: Said) -> str | None:
     return found[0] if len(found) == 1 else None
 
 
-def checked(crate: Crate, texts: dict[str, bytes], only: list[str]) -> Said:
-    """What a check says of a copy of the crate with these texts."""
+def checked(crate: Crate, texts: dict[str, bytes], only: list[str], seed: str = "") -> Said:
+    """What a check says of a copy of the crate with these texts. It begins with what is in the
+    folder `seed`, if one is given, and changes that."""
     rt = toolchain.rt()
     flags = ["--jobs", "1", *(word for path in only for word in ("--only", path))]
+    flags += ["--incremental", seed] if seed else []
     with tempfile.TemporaryDirectory(prefix=f"rt-edit-{os.getpid()}-") as room:
         for part in rt.rtlib.PARTS:
             if os.path.isdir(f"{crate.folder}/{part}"):

@@ -6,6 +6,7 @@ import tempfile
 import time
 import unittest
 from pathlib import Path
+from types import SimpleNamespace
 from unittest import mock
 
 from proving import keeping
@@ -93,7 +94,8 @@ class Keeping(unittest.TestCase):
         self.assertEqual(self.low.read("out/rlib/low.rlib/format"), "built otherwise")
 
     def test_what_is_other_is_not_given(self) -> None:
-        """The crate, the library below as it was built, the toolchain, what a crate may use."""
+        """The crate, the library below as it was built, the toolchain, what a crate may use, and
+        how libraries are built."""
         key = self.kept().key(self.high)
         self.assertEqual(key, self.kept().key(self.high))
         keys = {key}
@@ -113,6 +115,8 @@ class Keeping(unittest.TestCase):
         self.high.said["deps"] = []
         self.assertTrue(is_new())
         with mock.patch.object(Library, "allowed", ()):
+            self.assertTrue(is_new())
+        with mock.patch.object(keeping, "HOW", "statements"):
             self.assertTrue(is_new())
         for name in KIT:
             (self.place / "kit" / name).write_text("newer", "utf-8")
@@ -150,6 +154,34 @@ class Keeping(unittest.TestCase):
         self.assertTrue(kept.give(self.low, False, kept.key(self.low)))
         kept.sweep()
         self.assertEqual(len([*kept.folder.iterdir()]), 1)
+
+    def test_what_is_given_is_newer_than_its_sources(self) -> None:
+        """As the sources of a fresh clone are newer than what was kept before."""
+
+        class Proved(Library):
+            """A crate as `rt ci` has it."""
+
+            out = None
+
+            def ci(self, _: list[str], __: bool) -> int:
+                """Proves it."""
+                self.build("proved")
+                return 0
+
+        rt = SimpleNamespace(Crate=Proved, KIT=str(self.place / "kit"), say=lambda *_: None)
+        keeping.keep_what_is_proved(rt)
+        crate = Proved(self.place, "high", self.low)
+        prove = getattr(crate, "ci")
+        self.assertEqual(prove([], True), 0)
+        made = Path(crate.folder, "out/high_tests")
+        for path in keeping.folder().rglob("*_tests"):
+            os.utime(path, (1, 1))
+        shutil.rmtree(made.parent)
+        source = Path(crate.folder, "src/lib.rt")
+        source.write_text(crate.name, "utf-8")
+        self.assertEqual(prove([], True), 0)
+        self.assertGreaterEqual(made.stat().st_mtime, source.stat().st_mtime)
+        self.assertLessEqual(made.stat().st_mtime, time.time())
 
 
 if __name__ == "__main__":

@@ -217,6 +217,8 @@ class Interrupts(World):
         stopped = 0
         for name in names():
             words = words_of(name, "db.mm")
+            # What `cache` answers depends on what is kept.
+            shutil.rmtree(self.cache / "mmquery", ignore_errors=True)
             begun = time.monotonic()
             whole = self.query(*words)
             took = time.monotonic() - begun
