@@ -11,6 +11,7 @@ from __future__ import annotations
 
 import argparse
 import os
+import re
 from collections.abc import Callable, Sequence
 from dataclasses import dataclass
 from fnmatch import fnmatchcase
@@ -19,17 +20,22 @@ from typing import TYPE_CHECKING
 from query.answers.errors import NoAnswer, nearest, shown
 from query.arguments.label_files import words_in
 from query.arguments.options import Parser
+from query.texts.contributed import contributed, is_day
 
 if TYPE_CHECKING:
     from query.reports.database import Database
     from query.texts.text import Header, Text
 
 Test = Callable[[str], bool]
+YEAR = re.compile(r"[0-9]{4}")
+FIRST_DAY, LAST_DAY = "0001-01-01", "9999-12-31"
+"""The first and the last day that a comment can name."""
 
 
 @dataclass(frozen=True)
 class Filters:
-    """The filters that are given. `like` and `unlike` are patterns, `among` names of files."""
+    """The filters that are given. `like` and `unlike` are patterns, `among` names of files, `since`
+    and `until` days as ISO 8601 writes them."""
 
     before: str | None = None
     main: bool = False
@@ -38,6 +44,9 @@ class Filters:
     like: tuple[str, ...] = ()
     unlike: tuple[str, ...] = ()
     among: tuple[str, ...] = ()
+    contributor: str | None = None
+    since: str | None = None
+    until: str | None = None
 
     @property
     def are_given(self) -> bool:
@@ -48,6 +57,7 @@ class Filters:
         """Whether a label passes. NoAnswer where a filter names what isn't there, or needs the text
         of what is only a report."""
         tests = [*self._tests_of_places(database), *self._tests_of_labels()]
+        tests += self._tests_of_comments(database)
         return lambda label: all(test(label) for test in tests)
 
     def _tests_of_places(self, database: Database) -> list[Test]:
@@ -85,6 +95,24 @@ class Filters:
             tests.append(labels.__contains__)
         return tests
 
+    def _tests_of_comments(self, database: Database) -> list[Test]:
+        """The tests of who contributed an assertion, and when."""
+        is_of_days = self.since is not None or self.until is not None
+        if self.contributor is None and not is_of_days:
+            return []
+        text = database.text
+        if self.contributor is not None:
+            see_contributor(text, database.name, self.contributor)
+        first, last = self.since or FIRST_DAY, self.until or LAST_DAY
+
+        def is_theirs(label: str) -> bool:
+            name, day = contributed(text.comment(text.by_label[label]))
+            if self.contributor is not None and name != self.contributor:
+                return False
+            return not is_of_days or (day is not None and first <= day <= last)
+
+        return [is_theirs]
+
 
 def header_of(text: Text, name: str, wanted: str, level: int | None = None) -> Header:
     """The header of a number or a title, of this level if one of those is. NoAnswer where no header
@@ -116,6 +144,37 @@ def mathboxes_of(text: Text, name: str, owner: str) -> frozenset[int]:
     return found
 
 
+def see_contributor(text: Text, name: str, contributor: str) -> None:
+    """NoAnswer where no comment names this contributor."""
+    known: set[str] = set()
+    for one in text.assertions:
+        found = contributed(text.comment(one)).name
+        if found == contributor:
+            return
+        if found is not None:
+            known.add(found)
+    meant = nearest(contributor, sorted(known))
+    raise NoAnswer(f"{name}: nothing was contributed by '{shown(contributor)}'{meant}")
+
+
+def since_day(word: str) -> str:
+    """The first day of a year, or a day. ArgumentTypeError where the word is neither."""
+    return day_of_word(word, "01-01")
+
+
+def until_day(word: str) -> str:
+    """The last day of a year, or a day. ArgumentTypeError where the word is neither."""
+    return day_of_word(word, "12-31")
+
+
+def day_of_word(word: str, of_year: str) -> str:
+    """A day, or this day of a year."""
+    day = f"{word}-{of_year}" if YEAR.fullmatch(word) else word
+    if not is_day(day):
+        raise argparse.ArgumentTypeError(f"'{word}' is no year as 2014, and no day as 2014-05-31")
+    return day
+
+
 def add_filters(parser: Parser) -> None:
     """Adds the filters."""
     group = parser.add_argument_group("filters of the list")
@@ -128,6 +187,12 @@ def add_filters(parser: Parser) -> None:
     parser.values("--like", "PATTERN", like, group=group)
     parser.values("--not", "PATTERN", "no labels like PATTERN", group=group, dest="unlike")
     parser.values("--among", "FILE", "only labels that FILE has", group=group)
+    by = "only what NAME contributed, as comments say: (Contributed by NAME, 5-Aug-1993.)"
+    parser.value("--contributor", "NAME", by, group=group)
+    since = "only what was contributed on DATE or later: 2014 or 2014-05-31"
+    parser.value("--since", "DATE", since, group=group, type=since_day)
+    until = "only what was contributed on DATE or earlier, or in that year"
+    parser.value("--until", "DATE", until, group=group, type=until_day)
 
 
 def filters_of(arguments: argparse.Namespace) -> Filters:
@@ -140,6 +205,9 @@ def filters_of(arguments: argparse.Namespace) -> Filters:
         like=patterns(arguments.like),
         unlike=patterns(arguments.unlike),
         among=tuple(arguments.among),
+        contributor=arguments.contributor,
+        since=arguments.since,
+        until=arguments.until,
     )
 
 

@@ -166,9 +166,13 @@ def add_choice_of_axioms(parser: Parser) -> None:
     add_choice_of_citations(parser)
 
 
-def add_only(parser: Parser, default: str | None) -> None:
+def add_only(
+    parser: Parser,
+    default: str | None,
+    about: str = "the axioms are those of typecode T (else: |-)",
+) -> None:
     """Adds `--only`."""
-    parser.value("--only", "T", "the axioms are those of typecode T (else: |-)", default=default)
+    parser.value("--only", "T", about, default=default)
 
 
 def add_open(parser: Parser) -> None:

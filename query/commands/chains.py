@@ -1,7 +1,7 @@
 """`why`, `way-out` and `frees`: chains of citations, and what would cut them."""
 
 import argparse
-from collections.abc import Iterator
+from collections.abc import Iterable, Iterator, Sequence
 from dataclasses import dataclass
 from itertools import islice
 
@@ -12,6 +12,7 @@ from query.arguments.options import (
     Parser,
     add_choice_of_citations,
     add_database,
+    add_only,
     options_of,
     positive,
 )
@@ -32,7 +33,8 @@ error says so.
 label    what is on the chain
 
 With --longest it is a longest chain instead, of several again the one that comes first; without ON
-a longest one of all that lead down from LABEL. With --unavoidable it is what every chain leads
+a longest one of all that lead down from LABEL to an axiom of typecode |-, or of that of --only.
+Standard error says how many citations it has. With --unavoidable it is what every chain leads
 through, both ends included.
 
 With --all, the part of the graph between: all citations that are on a chain, in file order.
@@ -121,6 +123,7 @@ def configure_why(parser: Parser) -> None:
     parser.flag("--all", "all citations on chains between")
     parser.flag("--longest", "a longest chain in place of a shortest one")
     parser.flag("--unavoidable", "what every chain leads through")
+    add_only(parser, None, "--longest without ON ends at an axiom of typecode T (else: |-)")
     add_choice_of_citations(parser)
 
 
@@ -132,11 +135,12 @@ def run_why(context: Context, arguments: argparse.Namespace) -> int:
     if arguments.on is None:
         if not arguments.longest:
             raise NoAnswer("why wants ON; without it, it answers --longest alone")
-        chain = longest_chain(graph, graph.node(arguments.label), None)
-        context.out.table(["label"], [[graph.labels[each]] for each in chain])
+        put_longest(context, database, graph.node(arguments.label))
         return 0
+    if arguments.only is not None:
+        raise NoAnswer("--only says where a chain ends, so why takes no ON with it")
     node, end = graph.node(arguments.label), graph.node(arguments.on)
-    found = longest_chain if arguments.longest else Graph.chain
+    found = longest_to if arguments.longest else Graph.chain
     found = cuts.unavoidable if arguments.unavoidable else found
     chain = found(graph, node, end) if node != end else []
     if not chain:
@@ -153,21 +157,46 @@ def run_why(context: Context, arguments: argparse.Namespace) -> int:
         context.out.table(["theorem", "cited"], rows)
     else:
         context.out.table(["label"], [[graph.labels[each]] for each in chain])
+        if arguments.longest and chain:
+            tell_length(context, graph, chain)
     return 0
 
 
-def longest_chain(graph: Graph, node: int, end: int | None) -> list[int]:
-    """A longest chain of citations from one node to another, both included, or to what cites
-    nothing; of several the one that is first in the file at each step. Empty where there is
-    none."""
-    axioms = range(graph.theorems, len(graph.labels))
-    far = dict.fromkeys(axioms if end is None else [end], 0)
+def put_longest(context: Context, database: Database, node: int) -> None:
+    """Answers with a longest chain that ends at one of the axioms that are chosen."""
+    database.see_axioms()
+    graph = database.graph()
+    chain = longest_chain(graph, node, [graph.theorems + each for each in database.of_typecode()])
+    context.out.table(["label"], [[graph.labels[each]] for each in chain])
+    if chain:
+        tell_length(context, graph, chain)
+    else:
+        which = database.which()
+        others = "; --only T chooses others" if which else ""
+        context.tell(f"{graph.labels[node]} rests on no axiom{which}{others}")
+
+
+def tell_length(context: Context, graph: Graph, chain: Sequence[int]) -> None:
+    """Says how many citations a chain has."""
+    count = len(chain) - 1
+    citations = "citation" if count == 1 else "citations"
+    ends = f"from {graph.labels[chain[0]]} to {graph.labels[chain[-1]]}"
+    context.tell(f"{graph.name}: {count} {citations} {ends}")
+
+
+def longest_to(graph: Graph, node: int, end: int) -> list[int]:
+    """A longest chain of citations from one node to another."""
+    return longest_chain(graph, node, [end])
+
+
+def longest_chain(graph: Graph, node: int, ends: Iterable[int]) -> list[int]:
+    """A longest chain of citations from a node to one of others, both included; of several the one
+    that is first in the file at each step. Empty where there is none."""
+    far = dict.fromkeys(ends, 0)
     for theorem in range(min(node + 1, graph.theorems)):
         steps = [far[each] for each in graph.cites[theorem] if each in far]
         if steps:
             far[theorem] = 1 + max(steps)
-        elif end is None:
-            far[theorem] = 0
     chain = [node] if node in far else []
     while chain and far[chain[-1]]:
         left = far[chain[-1]] - 1

@@ -64,11 +64,22 @@ What one changed proof does to many theorems is one finding, and at most 1000 ar
 each theorem, and all of them. --format github writes annotations, and --format log what no server
 takes for a command.
 
+`newly = "main"` and `new = "main"` leave theorems of mathboxes, as --main of other commands does.
+But what the base has in its main part is judged wherever it stands now, and so is what stands where
+the base has no mathbox. What comes out of a mathbox counts as new. A header that takes in what
+stayed where it was is a finding of the first of these rules.
+
+`new` follows `newly` where the file says nothing of it. Without a key `new` under rules, `newly`
+stands for both, so `newly = false` switches `new` off too. Without `new` under allow, what is
+allowed by `newly` is allowed of new theorems too. `new = true` and `new = {}` part them.
+
 mmdepend.toml lies at the top of the repository. It counts once the base has it. For instance:
 
   watch = ["ax-ac2", "ax-reg"]
   definitions = true
   [rules]
+  newly = "main"
+  new = "main"
   discouraged = false
   [allow]
   axioms = ["ax-mine"]
@@ -81,7 +92,12 @@ mmdepend.toml lies at the top of the repository. It counts once the base has it.
 Under allow stand the labels of findings that are let through, by rules. Which theorems rest on a
 new axiom is told by `review`; the gate tells it of those that are watched.
 
+A job of CI has git fetch the base with its history, asks the second line below, and fails where
+the status isn't 0. docs/ci/github.yml is such a job for GitHub, which no pull request can change,
+and docs/ci/check-database a script for other servers.
+
   $ mmquery gate --base origin/main set.mm
+  $ mmquery gate --base origin/main --format github --no-cache HEAD:set.mm
 """
 
 

@@ -15,6 +15,7 @@ from query.arguments.options import (
     add_choice_of_citations,
     add_database,
     options_of,
+    positive,
 )
 from query.citations.crossing import across_mathboxes, citations, citing_headers, fit_for_main
 from query.citations.graph import Graph
@@ -35,9 +36,12 @@ axiom     which AXIOM; each header has a row for each of them
 rest      how many of these theorems rest on the axiom
 first     the first of these that does
 title     that of the header
+share     how many of a hundred rest on it, with one digit; nothing where no theorem stands there
 
-Without an AXIOM there is a row for each header, and nothing in axiom, rest and first. With
---no-empty there is no row where no theorem rests on the axiom, or, without an AXIOM, none stands.
+Without an AXIOM there is a row for each header, and nothing in axiom, rest, first and
+share. With --no-empty there is no row where no theorem rests on the axiom, or, without an AXIOM,
+none stands. With --level the headers of that level alone have rows. They are in file order; with
+--by rest or --by share the largest comes first, and of equal ones the larger by the other of both.
 With --any each header has one row for all AXIOMs, which counts what rests on one of them or more.
 
 With --between LEVEL, which headers of one level build on which others, by what the proofs below
@@ -55,6 +59,7 @@ With --of HEADER, a number or a title, only the rows that have it, on either sid
   $ mmquery chapters set.mm ax-ac2 ax-reg
   $ mmquery chapters set.mm ax-ac2 ax-cc --any
   $ mmquery chapters set.mm ax-ac2 --no-empty
+  $ mmquery chapters set.mm ax-ac2 --level chapter --by share --most 5
   $ mmquery chapters set.mm --between part --of 'elementary geometry'
 """
 
@@ -135,6 +140,15 @@ def configure_chapters(parser: Parser) -> None:
     """The words and options of `chapters`."""
     add_database(parser)
     parser.add_argument("axiom", metavar="AXIOM", nargs="*")
+    parser.exclude("--level", "--between")
+    parser.add_argument(
+        "--level",
+        metavar="LEVEL",
+        choices=LEVELS,
+        help=f"only the headers of this level: {', '.join(LEVELS)}",
+    )
+    parser.add_argument("--by", choices=("rest", "share"), help="of which most comes first")
+    parser.value("--most", "N", "only the first N rows (else: all)", type=positive)
     parser.flag("--no-empty", "leave out headers under which nothing is counted")
     parser.flag("--any", "count what rests on one of the AXIOMs or more, in one row")
     parser.add_argument(
@@ -169,33 +183,68 @@ def run_chapters(context: Context, arguments: argparse.Namespace) -> int:
     if arguments.of is not None:
         raise NoAnswer("--of wants --between LEVEL")
     dependence = database.dependence()
-    if arguments.any and not arguments.axiom:
-        raise NoAnswer("--any wants an AXIOM")
-    text = database.text
-    theorems = dependence.theorems
+    for option in ("any", "by"):
+        if getattr(arguments, option) and not arguments.axiom:
+            raise NoAnswer(f"--{option} wants an AXIOM")
     asked = counted_axioms(dependence, arguments.axiom, arguments.any)
+    rows = chapter_rows(database.text, dependence.theorems, asked, arguments)
+    about = ["axiom", "rest", "first"]
+    if arguments.by is not None:
+        rows.sort(key=lambda row: rank_of(row, arguments.by))
+    if arguments.most is not None and arguments.most < len(rows):
+        context.tell(f"{database.name}: {arguments.most} of {len(rows)} rows; --most N shows more")
+        rows = rows[: arguments.most]
+    none = f"no theorem rests on {' or '.join(arguments.axiom)}" if asked else "has no theorem"
+    if arguments.level and not any(
+        LEVELS[header.level] == arguments.level for header in database.text.headers
+    ):
+        none = f"has no header of the level '{arguments.level}'"
+    context.table(
+        ["number", "theorems", *about, "title", "share"],
+        rows,
+        f"{database.name}: {none}",
+        aside=[] if asked else [*about, "share"],
+    )
+    return 0
+
+
+def chapter_rows(
+    text: Text,
+    theorems: list[str],
+    asked: list[tuple[Value, Sequence[int]]],
+    arguments: argparse.Namespace,
+) -> list[list[Value]]:
+    """The rows of `chapters`: of each header one for each axiom asked about, or one without."""
     counted = [Numbers(text, theorems)]
     for _, users in asked:
         counted.append(Numbers(text, [theorems[row] for row in users]))
-    places = [("0", 0, len(text.assertions), "(the whole database)")]
-    places += [(each.number, each.first, each.end, each.title) for each in text.headers]
     rows: list[list[Value]] = []
-    for number, first, end, title in places:
+    for number, first, end, title in places_of(text, arguments.level):
         below = counted[0].within(first, end)[0]
         for (name, _), numbers in zip(asked or [(None, ())], counted[1:] or counted):
             count, one = numbers.within(first, end)
             if count or not arguments.no_empty:
+                share = round(100 * count / below, 1) if below else None
                 about_axiom: list[Value] = [name, count, one] if asked else [None] * 3
-                rows.append([number, below, *about_axiom, title])
-    about = ["axiom", "rest", "first"]
-    none = f"no theorem rests on {' or '.join(arguments.axiom)}" if asked else "has no theorem"
-    context.table(
-        ["number", "theorems", *about, "title"],
-        rows,
-        f"{database.name}: {none}",
-        aside=[] if asked else about,
-    )
-    return 0
+                rows.append([number, below, *about_axiom, title, share if asked else None])
+    return rows
+
+
+def places_of(text: Text, level: str | None) -> list[tuple[str, int, int, str]]:
+    """The headers of a level, or the whole database and all headers: number, first assertion, the
+    one after the last, and title."""
+    places = [("0", 0, len(text.assertions), "(the whole database)")] if level is None else []
+    for each in text.headers:
+        if level is None or LEVELS[each.level] == level:
+            places.append((each.number, each.first, each.end, each.title))
+    return places
+
+
+def rank_of(row: Sequence[Value], column: str) -> tuple[float, float]:
+    """Where a row of `chapters` stands by `rest` or by `share`; by the other one of equal ones."""
+    count, below = int(str(row[3])), int(str(row[1]))
+    share = count / below if below else -1.0
+    return (-count, -share) if column == "rest" else (-share, -count)
 
 
 def put_between(context: Context, database: Database, arguments: argparse.Namespace) -> None:

@@ -14,12 +14,13 @@ from dataclasses import dataclass, field
 from query.comparisons.changes import Comparison
 from query.gate.allowances import Resting
 from query.gate.config import Config
+from query.gate.mathboxes import MainPart
 
 
 @dataclass(frozen=True)
 class Arrival:
     """A theorem of NEW, and the columns of the watched axioms on which it came to rest. `was_there`
-    is whether OLD has the theorem too."""
+    is whether OLD has the theorem too, where a rule judges the main part alone: there."""
 
     row: int
     theorem: str
@@ -47,6 +48,8 @@ class Arrivals:
     comparison: Comparison
     axioms: list[str]
     config: Config
+    main_part: MainPart | None = None
+    """The main part, where one of the rules judges it alone."""
     causes: dict[tuple[int, int], tuple[str, str]] = field(default_factory=dict)
     """For rows and columns why the theorem rests on the axiom, as far as that was asked."""
 
@@ -62,13 +65,31 @@ class Arrivals:
         """The bits of axioms in a row."""
         return self.new.mask_of([self.new.columns[label] for label in labels])
 
+    def has_entered(self, theorem: str) -> bool:
+        """Whether a theorem came out of a mathbox into the main part, where a rule judges that
+        alone. What it rests on was nobody's concern in the mathbox, so all of it is new."""
+        return self.main_part is not None and theorem in self.main_part.entered
+
+    def is_left(self, rule: str, theorem: str) -> bool:
+        """Whether a rule judges the main part alone, and a theorem isn't in it."""
+        part = self.main_part
+        return part is not None and rule in self.config.of_main and theorem in part.left
+
+    def row_before(self, theorem: str) -> int:
+        """The axioms on which a theorem of NEW rested in OLD, as bits. In the main part the old
+        proof of a theorem of a mathbox is new."""
+        before, part = self.comparison.was(theorem), self.main_part
+        if part is not None and before in part.boxed_before and theorem not in part.left:
+            return 0
+        return self.comparison.row_before(before)
+
     def came(self, row: int) -> int:
         """The bits of the watched axioms on which a theorem came to rest."""
         theorem = self.new.theorems[row]
         bits = self.new.bits(row) & self.watched
-        if not bits or not self.is_told(theorem):
+        if not bits or not (self.is_told(theorem) or self.has_entered(theorem)):
             return 0
-        return bits & ~self.comparison.row_before(self.comparison.was(theorem))
+        return bits & ~self.row_before(theorem)
 
     def is_told(self, theorem: str) -> bool:
         """Whether the program tells of a theorem that it is new or rests on more. What it tells of
@@ -78,12 +99,13 @@ class Arrivals:
 
     def all(self, rule: str) -> Iterator[Arrival]:
         """Those of the rule `newly`, which OLD has too, or of the rule `new`, which it hasn't,
-        without what is allowed."""
+        without what is allowed. Where a rule judges the main part alone, what came into it counts
+        as new."""
         if not self.watched:
             return
         for row, theorem in enumerate(self.new.theorems):
-            was_there = theorem in self.comparison.to_old
-            if was_there != (rule == "newly"):
+            was_there = theorem in self.comparison.to_old and not self.has_entered(theorem)
+            if was_there != (rule == "newly") or self.is_left(rule, theorem):
                 continue
             bits = self.came(row)
             if bits and rule in self.allowed:

@@ -39,11 +39,16 @@ CHOSEN = "definitions"
 """The rule that counts only where the file says so, by a key of this name."""
 DEFAULTS = frozenset(RULES) - {CHOSEN}
 """The rules that count where the file says nothing."""
+RESTING = ("newly", "new")
+"""The rules on what rests on watched axioms, in that order."""
+MAIN = "main"
+"""What the file says of such a rule that judges the main part alone."""
 
-TEXT, LABELS, SWITCH, LISTS, NUMBER = (
+TEXT, LABELS, SWITCH, SCOPE, LISTS, NUMBER = (
     "a text",
     "a list of labels",
     "true or false",
+    f'true, false or "{MAIN}"',
     "a table of lists of labels",
     f"a whole number from 1 to {MOST_GIVEN}",
 )
@@ -55,7 +60,7 @@ SHAPE: Shape = {
     "typecode": TEXT,
     "watch": LABELS,
     CHOSEN: SWITCH,
-    "rules": {rule: SWITCH for rule in RULES if rule in DEFAULTS},
+    "rules": {rule: SCOPE if rule in RESTING else SWITCH for rule in RULES if rule in DEFAULTS},
     "allow": {
         "axioms": LABELS,
         "newly": LISTS,
@@ -107,6 +112,11 @@ class Config:
     """That of the axioms which the rule `axioms` judges; None for all."""
     watch: tuple[str, ...] = ()
     rules: frozenset[str] = DEFAULTS
+    of_main: tuple[str, ...] = ()
+    """Those of `RESTING` that judge the main part alone."""
+    is_new_as_newly: bool = False
+    """Whether the file switches the rule `newly` on or off, and says nothing of `new`, which then
+    is as that."""
     allowed: Mapping[str, Labels] = field(default_factory=dict)
     """Of the rules `axioms`, `avoids`, `open`, `mathboxes` and `discouraged`: what may break
     them."""
@@ -201,6 +211,7 @@ def config_of(table: Mapping[str, Any], name: str, lines: Mapping[tuple[str, ...
     """
     rules = table.get("rules", {})
     allow = table.get("allow", {})
+    is_new_as_newly = "newly" in rules and "new" not in rules
     rules = {"new": rules.get("newly", True), **rules, CHOSEN: table.get(CHOSEN, False)}
     resting = {"newly": allow.get("newly", {}), "new": allow.get("new", allow.get("newly", {}))}
     return Config(
@@ -209,6 +220,8 @@ def config_of(table: Mapping[str, Any], name: str, lines: Mapping[tuple[str, ...
         typecode=table.get("typecode", Config.typecode),
         watch=tuple(dict.fromkeys(table.get("watch", ()))),
         rules=frozenset(rule for rule in RULES if rules.get(rule, True)),
+        of_main=tuple(rule for rule in RESTING if rules.get(rule) == MAIN),
+        is_new_as_newly=is_new_as_newly,
         allowed={
             rule: Labels(tuple(words)) for rule, words in allow.items() if rule not in resting
         },
@@ -260,8 +273,10 @@ class Checker:
                 self.check_word(key, here, patterns=path[0] == "allow")
                 self.check_value(words, LABELS, here)
             return
-        types = {TEXT: str, LABELS: list, SWITCH: bool, LISTS: dict, NUMBER: int}
+        types = {TEXT: str, LABELS: list, SWITCH: bool, SCOPE: bool, LISTS: dict, NUMBER: int}
         key = shown(".".join(path))
+        if wanted == SCOPE and value == MAIN:
+            return
         is_number = type(value) is int and 1 <= value <= MOST_GIVEN
         if not isinstance(value, types[wanted]) or (wanted == NUMBER and not is_number):
             raise self.fail(path, f"'{key}' isn't {wanted}, but {kind_of(value)}")

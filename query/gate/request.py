@@ -36,13 +36,18 @@ class Request:
         return tuple(rule for rule in RULES if rule in self.config.rules)
 
     def all_notes(self) -> list[str]:
-        """The notes, with one on axioms that aren't judged."""
+        """The notes, with those on axioms that aren't judged, and on a rule that is off unsaid."""
         config = self.config
         notes = [*self.notes]
         if config.typecode is not None and "axioms" in config.rules:
             notes.append(
                 f"`typecode` of {config.name} leaves the axioms of '{config.typecode}'; others"
                 " aren't judged, and a new one can make proofs of anything"
+            )
+        if config.is_new_as_newly and "new" not in config.rules:
+            notes.append(
+                f"`rules.newly` of {config.name} switches the rule `new` off too, of which it says"
+                " nothing: new theorems may rest on watched axioms"
             )
         return notes
 

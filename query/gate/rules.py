@@ -20,7 +20,7 @@ from query.gate.arrivals import Arrivals
 from query.gate.config import LABEL, RULES, Claim, Config
 from query.gate.finding import Finding
 from query.gate.labels import Labels, meant
-from query.gate.mathboxes import exposed
+from query.gate.mathboxes import MainPart, exposed, main_part
 from query.gate.new_definitions import introduced
 from query.platform import progress
 from query.texts.assertions import Assertion
@@ -84,7 +84,13 @@ class Case:
     @cached_property
     def arrivals(self) -> Arrivals:
         """What came to rest on watched axioms."""
-        return Arrivals(self.comparison, watched_axioms(self), self.config)
+        return Arrivals(self.comparison, watched_axioms(self), self.config, self.main_part)
+
+    @cached_property
+    def main_part(self) -> MainPart | None:
+        """The main part, where a rule judges it alone."""
+        same, is_asked = self.comparison, self.config.of_main
+        return main_part(same.old_text, same.text, same.to_old) if is_asked else None
 
     @cached_property
     def open(self) -> dict[str, None]:
@@ -94,8 +100,11 @@ class Case:
     @cached_property
     def may_arrive(self) -> bool:
         """Whether a theorem may have come to rest on a watched axiom: the program tells that it
-        gained one, or it has the label of another one, with which it was compared."""
+        gained one, or it has the label of another one, with which it was compared; or what came out
+        of a mathbox counts as new."""
         told, watch, was = self.comparison.differences, self.config.watch, self.comparison.to_old
+        if watch and self.main_part is not None and self.main_part.entered:
+            return True
         if any(one.kind == "p" and one.label in told.gone for one in told.new.values()):
             return bool(watch)
         labels = Labels(watch)
@@ -240,6 +249,8 @@ def new(case: Case) -> Iterator[Finding]:
 def arrived(case: Case, rule: str, how: str) -> Iterator[Finding]:
     """What breaks one of these rules: the first theorem for each proof that is the cause, or all
     theorems with all axioms."""
+    if case.config.watch and rule in case.config.of_main[:1]:
+        yield from taken_in(case, rule)
     if not case.may_arrive:
         return
     if not case.tells_all:
@@ -247,14 +258,46 @@ def arrived(case: Case, rule: str, how: str) -> Iterator[Finding]:
             others = f" and {more(each.axioms, 'watched axiom')}" if each.axioms else ""
             way = way_of(each.theorem, each.citing, each.cited)
             so_do = f"; with {more(each.theorems, 'theorem')} by that" if each.theorems else ""
-            reason = f"{how} {each.axiom}{others}: {way}{so_do}"
+            reason = f"{how_of(case, each.theorem, how)} {each.axiom}{others}: {way}{so_do}"
+            reason += why_judged(case, rule, each.theorem)
             yield case.finding(rule, each.theorem, reason, each.axiom)
         return
     for arrival in case.arrivals.all(rule):
         for column in arrival.columns:
             axiom = case.new.dependence.axioms[column]
             way = way_of(arrival.theorem, *case.arrivals.cause(arrival.row, column))
-            yield case.finding(rule, arrival.theorem, f"{how} {axiom}: {way}", axiom)
+            reason = f"{how_of(case, arrival.theorem, how)} {axiom}: {way}"
+            reason += why_judged(case, rule, arrival.theorem)
+            yield case.finding(rule, arrival.theorem, reason, axiom)
+
+
+def taken_in(case: Case, rule: str) -> Iterator[Finding]:
+    """Statements of the main part stayed where they were, and a mathbox has them now, so that they
+    would no longer be judged after the merge; and that isn't allowed."""
+    part = case.main_part
+    for each in () if part is None else part.taken:
+        labels = [label for label in each.labels if not case.config.allows("mathboxes", label)]
+        if labels:
+            others = f", like {len(labels) - 1} more," if labels[1:] else ""
+            reason = (
+                f"stayed where it was{others} and is in the mathbox for {each.mathbox} now, which"
+                f" isn't judged by `{rule}`: a header is before it that is new or moved, or one is"
+                " gone"
+            )
+            yield case.finding(rule, labels[0], reason)
+
+
+def how_of(case: Case, theorem: str, how: str) -> str:
+    """In words, how a theorem came to rest on something."""
+    is_out = case.arrivals.has_entered(theorem)
+    return "came out of a mathbox, and in the main part it newly rests on" if is_out else how
+
+
+def why_judged(case: Case, rule: str, theorem: str) -> str:
+    """Why a theorem of a mathbox counts as one of the main part, as the end of a sentence."""
+    part = case.main_part if rule in case.config.of_main else None
+    why = part.believed.get(theorem) if part else None
+    return f"; it counts as of the main part: {why}" if why else ""
 
 
 def more(count: int, word: str) -> str:
@@ -600,7 +643,8 @@ assert tuple(JUDGES) == RULES
 
 def judge(case: Case) -> Iterator[Finding]:
     """What breaks the rules that the file doesn't switch off, rule by rule."""
-    for rule, found in JUDGES.items():
-        if rule in case.config.rules:
-            progress.now(f"judging {case.new.name} by the rule {rule}")
-            yield from found(case)
+    rules = [rule for rule in JUDGES if rule in case.config.rules]
+    for number, rule in enumerate(rules, 1):
+        where = f"{number} of {len(rules)}"
+        progress.now(f"judging {case.new.name} by the rule {rule}, {where}")
+        yield from JUDGES[rule](case)

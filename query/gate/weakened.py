@@ -30,7 +30,14 @@ def losses(old: Config, new: Config) -> Iterator[Finding]:
         if rule in old.rules and rule not in new.rules:
             place = line(new, "rules", rule) or line(new, "rules", "newly")
             place = line(new, CHOSEN) if rule == CHOSEN else place
-            yield Finding("config", new.name, place, "", "", f"the rule `{rule}` is switched off")
+            is_unsaid = rule == "new" and new.is_new_as_newly
+            why = ", as `rules.newly` says, since the file has no `rules.new`" if is_unsaid else ""
+            reason = f"the rule `{rule}` is switched off{why}"
+            yield Finding("config", new.name, place, "", "", reason)
+        elif rule in old.rules and rule in new.of_main and rule not in old.of_main:
+            place = line(new, "rules", rule) or line(new, "rules", "newly")
+            reason = f"the rule `{rule}` leaves theorems of mathboxes, where all were judged"
+            yield Finding("config", new.name, place, "", "", reason)
     watched = Labels(new.watch)
     for word in old.watch:
         if word not in watched.whole:

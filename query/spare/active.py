@@ -12,10 +12,13 @@ from dataclasses import dataclass, field
 from functools import cached_property
 from typing import NamedTuple
 
-from query.texts.floating import FLOATING
 from query.texts.uncommented import without_comments
 
 SIGN = re.compile(rb"\$(?:[{}]|d\s([^$]*+)\$\.)")
+
+
+# A `$f` statement with its label.
+FLOATING = re.compile(rb"(?<!\S)([\w.-]++)\s++\$f\s++([^\s$]++)\s++([^\s$]++)\s++\$\.")
 
 
 class Floating(NamedTuple):

@@ -43,6 +43,7 @@ WORDS: dict[str, tuple[str, ...]] = {
     "history": ("DB", "HEAD", "ax-1"),
     "gate": ("DB", "newer.mm"),
     "chapters": ("DB", "ax-1"),
+    "steps": ("DB", "a2"),
     "proofs": ("DB",),
     "contributors": ("DB",),
     "order": ("DB",),

@@ -49,6 +49,46 @@ TESTS: list[tuple[list[str], Test]] = [
 ]
 
 
+DATED = """$( (Contributed by Ann Other, 3-Jan-2013.) $) one $p |- p $= ? $.
+$( (Contributed by Bo, 31-Dec-2014.)  (Revised by Ann Other, 1-Jan-2015.) $) two $p |- p $= ? $.
+$( (Contributed by Ann
+   Other, 1-Jan-2014.) $) three $p |- p $= ? $.
+$( (Contributed by Bo, 31-Feb-2014.) $) four $p |- p $= ? $.
+$( (Contributed by Bo.) $) five $p |- p $= ? $.
+$( Nobody's. $) six $p |- p $= ? $.
+"""
+"""Theorems with contributors and days; of `four` there is no such day."""
+
+
+class OfComments(World):
+    """Who contributed a theorem, and when."""
+
+    def test_contributors_and_days(self) -> None:
+        self.write("db.mm", "$c wff |- $. $v p $. wp $f wff p $.\n" + DATED)
+        for words, wanted in (
+            ("--contributor=Bo", "two four five"),
+            ("--contributor=Ann Other", "one three"),
+            ("--since=2014", "two three"),
+            ("--until=2014", "one two three"),
+            ("--until=2013", "one"),
+            ("--since=2013-01-03 --until=2014-01-01", "one three"),
+            ("--since=2013-01-04 --until=2014-12-30", "three"),
+            ("--contributor=Bo --since=0001", "two"),
+            ("--contributor=Bo --until=9999-12-31", "two"),
+        ):
+            options = words.split(" --")
+            given = [options[0], *(f"--{each}" for each in options[1:])]
+            found = self.answers("unfinished", "db.mm", *given, "--format=tsv")[1:]
+            self.assertEqual([line.split("\t")[1] for line in found], wanted.split(), words)
+        why = "db.mm: nothing was contributed by 'Ann Othr'; did you mean Ann Other?"
+        self.refuses("unfinished", "db.mm", "--contributor=Ann Othr", why=why)
+        for word in ("14", "2014-5-1", "2014-02-30", "20140501", "2014-W01-1", "x", "0000", ""):
+            for option in ("--since", "--until"):
+                self.refuses("unfinished", "db.mm", f"{option}={word}", why="is no year as 2014")
+        none = self.query("unfinished", "db.mm", "--since=2016")
+        self.assertEqual(none.err, "mmquery: none of the 6 that there are passes the filters\n")
+
+
 class Filtered(World):
     """Over a database with headers and mathboxes."""
 

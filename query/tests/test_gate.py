@@ -637,7 +637,7 @@ class Folded(Repositories):
         new = changed(BASE, (free, "free1 $p |- ( p -> ( p -> p ) ) $= wp axac3 $."))
         told = "free1: newly rests on ax-ac2: it cites axac3 [newly]"
         self.assertEqual(self.found(BASE, new, WATCH), [told])
-        off = WATCH + "[rules]\nnewly = false\n"
+        off = WATCH + "[rules]\nnewly = false\nnew = false\n"
         self.assertEqual(self.found(BASE, new, off), [])
 
     def test_labels_that_are_swapped(self) -> None:

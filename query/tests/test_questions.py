@@ -173,8 +173,24 @@ class Questions(World):
         self.write("db.mm", SMALL)
         for words in ((), ("--all",), ("--unavoidable",)):
             self.refuses("why", "db.mm", "a2", *words, why="why wants ON")
-        self.assertEqual(self.answers("why", "db.mm", "a2", "--longest"), ["a2", "a1i", "wi"])
-        self.assertEqual(self.answers("why", "db.mm", "ax-1", "--longest"), ["ax-1"])
+
+    def test_where_a_longest_chain_ends(self) -> None:
+        """At an axiom of |- or of another typecode that is chosen; and how long it is."""
+        self.write("db.mm", SMALL)
+        for words, chain, told in (
+            (("a2",), ["a2", "a1i", "ax-1"], "db.mm: 2 citations from a2 to ax-1"),
+            (("a2", "--only=wff"), ["a2", "a1i", "wi"], "db.mm: 2 citations from a2 to wi"),
+            (("ax1",), ["ax1", "ax-1"], "db.mm: 1 citation from ax1 to ax-1"),
+            (("ax-1",), ["ax-1"], "db.mm: 0 citations from ax-1 to ax-1"),
+            (("a2", "ax-mp"), ["a2", "a1i", "ax-mp"], "db.mm: 2 citations from a2 to ax-mp"),
+            (("wi2",), [], "wi2 rests on no axiom of typecode '|-'; --only T chooses others"),
+            (("wi",), [], "wi rests on no axiom of typecode '|-'; --only T chooses others"),
+        ):
+            done = self.query("why", "db.mm", *words, "--longest")
+            self.assertEqual((done.status, done.lines()), (0, chain))
+            self.assertEqual(done.err, f"mmquery: {told}\n")
+        self.refuses("why", "db.mm", "a2", "--longest", "--only=x", why="no axiom of typecode 'x'")
+        self.refuses("why", "db.mm", "a2", "ax-1", "--only=wff", why="so why takes no ON with it")
 
     def test_cited_few_times(self) -> None:
         """Beside the citations of each theorem; and labels by patterns."""
@@ -212,9 +228,9 @@ class Questions(World):
                 with mock.patch("query.arguments.context.Context.tell") as tell:
                     chain = first(asked("why", path, "--", label, on))
                     edges = asked("why", path, "--all", "--", label, on)
-                    longest = first(asked("why", path, "--longest", "--", label, on))
                     common = first(asked("why", path, "--unavoidable", "--", label, on))
                 self.assertEqual(tell.called, not chains)
+                longest = first(asked("why", path, "--longest", "--", label, on))
                 on_all = (
                     [each for each in chains[0] if all(each in one for one in chains)]
                     if chains
@@ -232,12 +248,11 @@ class Questions(World):
                     tried += len(chain) > 2
                 else:
                     self.assertEqual(chain, [])
-                ends = [each for each in database.labels() if not database.cites.get(each)]
-                bare = [] if label not in ends else [[label]]
-                downs = bare + [each for end in ends for each in all_chains(database, label, end)]
-                longest = first(asked("why", path, "--longest", "--", label))
-                self.assertIn(longest, downs)
-                self.assertEqual(len(longest), max(map(len, downs)))
+                for only, ends in (("|-", database.axioms), ("wff", database.syntax)):
+                    downs = [each for end in ends for each in all_chains(database, label, end)]
+                    longest = first(asked("why", path, "--longest", "--only", only, "--", label))
+                    self.assertIn(longest, downs or [[]])
+                    self.assertEqual(len(longest), max(map(len, downs), default=0))
                 pairs = {pair for each in chains for pair in itertools.pairwise(each)}
                 self.assertEqual({tuple(edge) for edge in edges}, pairs)
                 self.assertEqual(len(edges), len(pairs))

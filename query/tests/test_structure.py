@@ -61,17 +61,17 @@ class Structure(World):
     def test_chapters(self) -> None:
         names = self.answers("chapters", "--open", "--format", "tsv", "db.mm", "ax-2", "ax-1")[0]
         self.assertEqual(
-            names.split("\t"), ["number", "theorems", "axiom", "rest", "first", "title"]
+            names.split("\t"), ["number", "theorems", "axiom", "rest", "first", "title", "share"]
         )
         rows = self.rows("chapters", "db.mm", "ax-2", "ax-1")
         self.assertEqual(
             rows[::2],
             [
-                ["0", "6", "ax-2", "3", "three", "(the whole database)"],
-                ["0.1", "2", "ax-2", "0", "", "First"],
-                ["0.1.1", "1", "ax-2", "0", "", "Deeper | <b>"],
-                ["0.2", "1", "ax-2", "1", "three", "Mathbox for Ann Other"],
-                ["0.3", "3", "ax-2", "2", "four", "Mathbox for Bo"],
+                ["0", "6", "ax-2", "3", "three", "(the whole database)", "50.0"],
+                ["0.1", "2", "ax-2", "0", "", "First", "0.0"],
+                ["0.1.1", "1", "ax-2", "0", "", "Deeper | <b>", "0.0"],
+                ["0.2", "1", "ax-2", "1", "three", "Mathbox for Ann Other", "100.0"],
+                ["0.3", "3", "ax-2", "2", "four", "Mathbox for Bo", "66.7"],
             ],
         )
         self.assertEqual(
@@ -85,7 +85,7 @@ class Structure(World):
             ],
         )
         rows = self.rows("chapters", "db.mm")
-        self.assertEqual(rows[0], ["0", "6", "", "", "", "(the whole database)"])
+        self.assertEqual(rows[0], ["0", "6", "", "", "", "(the whole database)", ""])
         text = self.answers("chapters", "--open", "db.mm")
         self.assertEqual(text[0].split(), ["number", "theorems", "title"])
         left = self.rows("chapters", "db.mm", "ax-2", "ax-1", "--no-empty")
@@ -110,6 +110,31 @@ class Structure(World):
             ],
         )
         self.refuses("chapters", "--open", "db.mm", "--any", why="--any wants an AXIOM")
+
+    def test_levels_shares_and_order(self) -> None:
+        """Against the rows of all headers, put in order here."""
+        rows = self.rows("chapters", "db.mm", "ax-2", "ax-1")
+        for level, dots in (("part", 0), ("chapter", 1), ("section", 2)):
+            wanted = [row for row in rows[2:] if row[0].count(".") == dots]
+            level_words = ("chapters", "db.mm", "ax-2", "ax-1", "--level", level)
+            self.assertEqual(self.rows(*level_words), wanted, level)
+            shares = {id(row): int(row[3]) / (int(row[1]) or 1) for row in wanted}
+            for by, ranked in (
+                ("rest", sorted(wanted, key=lambda row: (-int(row[3]), -shares[id(row)]))),
+                ("share", sorted(wanted, key=lambda row: (-shares[id(row)], -int(row[3])))),
+            ):
+                self.assertEqual(self.rows(*level_words, "--by", by), ranked)
+                done = self.query(*level_words, "--by", by, "--most=1", "--open", "--format=tsv")
+                self.assertEqual(done.lines()[1:], ["\t".join(row) for row in ranked[:1]])
+                more = f"mmquery: db.mm: 1 of {len(ranked)} rows; --most N shows more\n"
+                self.assertEqual(done.err, more if len(ranked) > 1 else done.err)
+        for words, why in (
+            (("--by", "share"), "--by wants an AXIOM"),
+            (("--level", "part", "--between", "part"), "not allowed with argument --level"),
+        ):
+            self.refuses("chapters", "--open", "db.mm", *words, why=why)
+        done = self.query("chapters", "db.mm", "--open", "--level=subsection")
+        self.assertEqual(done.err, "mmquery: db.mm: has no header of the level 'subsection'\n")
 
     def test_between(self) -> None:
         self.assertEqual(

@@ -30,6 +30,14 @@ def contributed(comment: str) -> Contributed:
     return Contributed(name, None if said is None else day_of(*said.groups()))
 
 
+def is_day(word: str) -> bool:
+    """Whether a word is a day as ISO 8601 writes it, with dashes."""
+    try:
+        return date.fromisoformat(word).isoformat() == word
+    except ValueError:
+        return False
+
+
 def day_of(day: str, month: str, year: str) -> str | None:
     """A day as ISO 8601 writes it; None where there is no such day."""
     try:

@@ -4,12 +4,16 @@ import re
 
 from query.texts.uncommented import without_comments
 
-FLOATING = re.compile(rb"(?<!\S)([\w.-]++)\s++\$f\s++([^\s$]++)\s++([^\s$]++)\s++\$\.")
+FLOATING = re.compile(rb"\$f\s++([^\s$]++)\s++([^\s$]++)\s++\$\.")
 
 
 def floating_of(data: bytes) -> dict[str, tuple[str, str]]:
     """For the label of each `$f` its typecode and its variable."""
-    return {
-        label.decode(): (typecode.decode(), variable.decode())
-        for label, typecode, variable in FLOATING.findall(without_comments(data))
-    }
+    bare_text = without_comments(data)
+    found: dict[str, tuple[str, str]] = {}
+    end = 0
+    for match in FLOATING.finditer(bare_text):
+        label = bare_text[end : match.start()].rsplit(None, 1)[-1]
+        found[label.decode()] = match[1].decode(), match[2].decode()
+        end = match.end()
+    return found

@@ -227,6 +227,11 @@ class Text:
         place = bisect_right(self._mathboxes, (assertion.number, len(self.assertions) + 1, "")) - 1
         return place if place >= 0 and assertion.number < self._mathboxes[place][1] else None
 
+    def places_of_boxes(self) -> list[tuple[int, int]]:
+        """For each mathbox the number of its first assertion and that of the one after its last;
+        where it has none, the same number."""
+        return [(first, end) for first, end, _ in self._mathboxes]
+
     def boxed(self) -> list[tuple[Assertion, int, str]]:
         """Each assertion that stands in a mathbox, with the number and the name of that."""
         return [

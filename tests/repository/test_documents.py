@@ -142,7 +142,9 @@ def stand_in() -> str:
     lines.append(header(3, "b"))
     lines += [f"{name} $p {formula} $= wp wq {cited} $." for name, cited in THEOREMS.items()]
     lines += [header(1, "Elementary geometry"), header(1, "Mathbox for A B")]
-    lines += [header(1, "Mathbox for Stefan Allan"), f"foo3 $p {formula} $= wp wq ax-1 $."]
+    lines.append(header(1, "Mathbox for Stefan Allan"))
+    lines += ["$( (Contributed by Mario Carneiro, 31-May-2014.) $)"]
+    lines += [f"foo3 $p {formula} $= wp wq ax-1 $."]
     return "\n".join(lines) + "\n"
 
 
