@@ -136,27 +136,24 @@ says the same is told by `repeats`.
 """
 
 
+def add_level(parser: Parser, option: str, says: str) -> None:
+    """Adds an option that takes a level of headers."""
+    parser.add_argument(
+        option, metavar="LEVEL", choices=LEVELS, help=f"{says}: {', '.join(LEVELS)}"
+    )
+
+
 def configure_chapters(parser: Parser) -> None:
     """The words and options of `chapters`."""
     add_database(parser)
     parser.add_argument("axiom", metavar="AXIOM", nargs="*")
     parser.exclude("--level", "--between")
-    parser.add_argument(
-        "--level",
-        metavar="LEVEL",
-        choices=LEVELS,
-        help=f"only the headers of this level: {', '.join(LEVELS)}",
-    )
+    add_level(parser, "--level", "only the headers of this level")
     parser.add_argument("--by", choices=("rest", "share"), help="of which most comes first")
     parser.value("--most", "N", "only the first N rows (else: all)", type=positive)
     parser.flag("--no-empty", "leave out headers under which nothing is counted")
     parser.flag("--any", "count what rests on one of the AXIOMs or more, in one row")
-    parser.add_argument(
-        "--between",
-        metavar="LEVEL",
-        choices=LEVELS,
-        help=f"which headers cite which others, of this level: {', '.join(LEVELS)}",
-    )
+    add_level(parser, "--between", "which headers cite which others, of this level")
     parser.value("--of", "HEADER", "with --between: only the rows of this header")
     add_choice_of_axioms(parser)
 

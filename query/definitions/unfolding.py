@@ -26,6 +26,7 @@ from query.proofs.layout import Made, laid_out, letters_in, line_width
 from query.proofs.letters import NUMBER, number_of
 from query.reports.database import Database
 from query.texts.assertions import Assertion
+from query.texts.floating import floating_in
 from query.texts.text import Text
 from query.texts.uncommented import without_comments
 
@@ -35,7 +36,6 @@ definition out of a database."""
 STRETCH, FORMULAS_TOLD, PROOFS_TOLD = 100_000, 10_000, 100
 """After so many of these it is told how far it is; of a database after so many formulas, and after
 so many proofs that are changed."""
-FLOATING = re.compile(rb"\$f\s+(\S+)\s+(\S+)\s+\$\.")
 STATEMENT = re.compile(rb"\$[eap](?=\s)")
 
 
@@ -214,10 +214,9 @@ class Without:
     def statements(self, bare_text: bytes) -> Iterator[tuple[int, int, bytes]]:
         """What has to stand in place of formulas: from where to where, and what."""
         kinds: dict[str, str] = {}
-        for match in FLOATING.finditer(bare_text):
-            kind, name = match[1].decode(), match[2].decode()
-            if kinds.setdefault(name, kind) != kind:
-                raise NoAnswer(f"the variable {name} is of two typecodes")
+        for each in floating_in(bare_text):
+            if kinds.setdefault(each.variable, each.typecode) != each.typecode:
+                raise NoAnswer(f"the variable {each.variable} is of two typecodes")
         for number, match in enumerate(STATEMENT.finditer(bare_text)):
             if number % FORMULAS_TOLD == 0:
                 progress.now(f"unfolding formulas, {number} were looked at")

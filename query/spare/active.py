@@ -8,33 +8,38 @@ from __future__ import annotations
 
 import re
 from bisect import bisect_right
+from collections.abc import Iterator
 from dataclasses import dataclass, field
 from functools import cached_property
+from operator import attrgetter
 from typing import NamedTuple
 
+from query.texts.floating import Floating, floating_in
 from query.texts.uncommented import without_comments
 
 SIGN = re.compile(rb"\$(?:[{}]|d\s([^$]*+)\$\.)")
 
 
-# A `$f` statement with its label.
-FLOATING = re.compile(rb"(?<!\S)([\w.-]++)\s++\$f\s++([^\s$]++)\s++([^\s$]++)\s++\$\.")
+class Sign(NamedTuple):
+    """Where a block begins or ends, or a `$d`, which alone has variables."""
+
+    place: int
+    word: bytes
+    variables: bytes | None
 
 
-class Floating(NamedTuple):
-    """A `$f` statement."""
-
-    label: str
-    typecode: str
-    symbol: str
+def signs_in(bare_text: bytes) -> Iterator[Sign]:
+    """Those of a text without comments, in their order."""
+    for match in SIGN.finditer(bare_text):
+        yield Sign(match.start(), match[0], match[1])
 
 
 @dataclass(slots=True)
 class Block:
-    """A block of the text: the one around it, its own `$f` with their places, and its own `$d`."""
+    """A block of the text: the one around it, its own `$f`, and its own `$d` with their places."""
 
     outer: Block | None
-    floating: list[tuple[int, Floating]] = field(default_factory=list)
+    floating: list[Floating] = field(default_factory=list)
     disjoint: list[tuple[int, list[str]]] = field(default_factory=list)
 
 
@@ -51,20 +56,16 @@ class Active:
         bare_text = without_comments(self.data)
         block = Block(None)
         places, found = [0], [block]
-        floating = [(match.start(), match) for match in FLOATING.finditer(bare_text)]
-        signs = [(match.start(), match) for match in SIGN.finditer(bare_text)]
-        for place, match in sorted([*floating, *signs], key=lambda each: each[0]):
-            word = match[0]
-            if word in (b"${", b"$}"):
-                block = Block(block) if word == b"${" else block.outer or block
-                places.append(place)
-                found.append(block)
-            elif word.startswith(b"$d"):
-                block.disjoint.append((place, match[1].decode("ascii").split()))
+        signs: list[Sign | Floating] = [*signs_in(bare_text), *floating_in(bare_text)]
+        for each in sorted(signs, key=attrgetter("place")):
+            if isinstance(each, Floating):
+                block.floating.append(each)
+            elif each.variables is not None:
+                block.disjoint.append((each.place, each.variables.decode("ascii").split()))
             else:
-                block.floating.append(
-                    (place, Floating(*(each.decode() for each in match.groups())))
-                )
+                block = Block(block) if each.word == b"${" else block.outer or block
+                places.append(each.place)
+                found.append(block)
         return places, found
 
     def at(self, place: int) -> tuple[list[Floating], list[list[str]]]:
@@ -72,10 +73,10 @@ class Active:
         `$d` that is."""
         places, blocks = self.blocks
         block: Block | None = blocks[bisect_right(places, place) - 1]
-        floating: list[tuple[int, Floating]] = []
+        floating: list[Floating] = []
         disjoint: list[list[str]] = []
         while block is not None:
-            floating += [each for each in block.floating if each[0] < place]
+            floating += [each for each in block.floating if each.place < place]
             disjoint += [names for start, names in block.disjoint if start < place]
             block = block.outer
-        return [each for _, each in sorted(floating)], disjoint
+        return sorted(floating), disjoint

@@ -35,9 +35,9 @@ class Variables:
         place = self.rules.text.assertions[self.theorem.number].place
         floating, disjoint = self.active.at(place)
         heads = self.rules.trees.heads
-        for label, typecode, symbol in floating:
-            variable = ~heads[self.rules.grammar.variable(typecode, symbol)]
-            self.scope.add_dummy(variable, symbol, label)
+        for each in floating:
+            variable = ~heads[self.rules.grammar.variable(each.typecode, each.variable)]
+            self.scope.add_dummy(variable, each.variable, each.label)
         for symbols in disjoint:
             named = [self.scope.names[symbol] for symbol in symbols if symbol in self.scope.names]
             bits = 0
