@@ -44,6 +44,6 @@ def mmdepend() -> NoReturn:
 
 
 def mmquery() -> NoReturn:
-    """The command that answers questions. It takes no module from elsewhere (`-I`), and writes none
-    (`-B`)."""
-    run([sys.executable, "-IB", str(PACKED / "mmquery"), *sys.argv[1:]])
+    """The command that answers questions. It takes no module from elsewhere (`-I`, `-S`), and
+    writes none (`-B`)."""
+    run([sys.executable, "-IBS", str(PACKED / "mmquery"), *sys.argv[1:]])

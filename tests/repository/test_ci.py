@@ -7,6 +7,7 @@ import shutil
 import subprocess
 import tarfile
 import unittest
+import venv
 from pathlib import Path
 
 from query.tests.repositories import ADDED, BASE, WATCH, Repositories, changed
@@ -374,6 +375,15 @@ class Modules(World):
         done = self.ran("./mmquery", "gate", "nowhere.mm", PYTHONPATH=str(self.folder))
         self.assertEqual(done.status, 2)
         self.assertIn("there is no such file", done.err)
+
+    def test_what_is_installed_beside_python(self) -> None:
+        """A file there with the ending .pth would be run by each start of Python."""
+        venv.create(self.folder / "python", symlinks=True)
+        (packages,) = (self.folder / "python").glob("lib/*/site-packages")
+        (packages / "more.pth").write_text("import os; os._exit(0)\n")
+        path = f"{self.folder}/python/bin:{self.surroundings()['PATH']}"
+        self.assertEqual(self.ran("python3", "-c", "raise SystemExit(3)", PATH=path).status, 0)
+        self.assertEqual(self.query("verify", "nowhere.mm", PATH=path).status, 2)
 
     def test_where_it_can_not_be_started(self) -> None:
         """A traceback would end with status 1, by which `verify` says that it refuses."""
