@@ -4,7 +4,6 @@ does."""
 import argparse
 import os
 from collections.abc import Iterator, Sequence
-from pathlib import Path
 
 from query.answers.errors import NoAnswer, shown
 from query.answers.output import Value
@@ -13,15 +12,16 @@ from query.arguments.options import Parser, add_choice_of_citations, add_databas
 from query.commands import Command
 from query.git.history import Revision, nothing_in, range_of, revisions
 from query.git.objects import Objects
-from query.git.repository import repository_of
+from query.git.repository import repository_with
 from query.platform import progress, secret
 from query.program import mmdepend
 from query.program.source import is_of_git
 from query.reports.revisions import Figures, Question, figures_of
 
 PAGE = """
-Shows for each revision of the range that changed DATABASE, a file of the working folder's
-repository, how many theorems rest on each AXIOM; the oldest first, and a row for each AXIOM.
+Shows for each revision of the range that changed DATABASE, the path of a file in a git repository,
+how many theorems rest on each AXIOM; the oldest first, and a row for each AXIOM. The repository is
+the one in which the file's folder lies, whatever the working folder is.
 
 rev       the revision's full id
 date      the day on which it was committed, by universal time
@@ -54,6 +54,7 @@ once. What is known of a file is kept; each other one takes as long as a first q
   $ mmquery history set.mm v1..main ax-ac2 ax-reg
   $ mmquery history set.mm v1..main --faults
   $ mmquery history set.mm v1..main ax-ac2 --of zorn
+  $ mmquery history ~/set.mm/set.mm v1..main ax-ac2
 """
 
 COLUMNS = ("rev", "date", "theorems", "axiom", "rest", "fault", "author", "subject")
@@ -82,7 +83,7 @@ def run(context: Context, arguments: argparse.Namespace) -> int:
         raise NoAnswer(f"{shown(word)}: history wants the path of a file that git keeps")
     if theorem is not None and not axioms:
         raise NoAnswer("history --of wants at least one AXIOM")
-    repository = repository_of(Path.cwd())
+    repository = repository_with(word)
     path, within = repository.path_of(word), range_of(arguments.range, repository)
     question = Question(options_of(arguments), context.uses_cache, tuple(axioms), theorem)
     mmdepend.ready()

@@ -29,6 +29,9 @@ NO_COMMIT = "0" * 40
 FULL_ID = re.compile(r"(?:[0-9a-f]{40}|[0-9a-f]{64})(?![^:^~@])")
 HEAD = re.compile(r"HEAD(?![^:^~@])")
 
+MOST_LINKS = 40
+"""So many links are followed on the way to a folder, as by the system."""
+
 NOWHERE = "/dev/null"
 """The file that is empty. Git knows it by this name on each system."""
 
@@ -140,10 +143,7 @@ class Repository:
         NoAnswer where it lies outside, and where a link, another repository or a submodule is on
         the way: what is judged would not be what the path names in a commit.
         """
-        typed = os.path.join(os.getcwd(), word)
-        whole = Path(os.path.normpath(typed))
-        if os.path.realpath(os.path.dirname(typed)) != os.path.realpath(whole.parent):
-            raise NoAnswer(f"{shown(word)}: there is a link on the way; type the path without it")
+        whole = whole_path(word)
         see_no_link_to_here()
         above = self.above(whole)
         if above is None:
@@ -298,17 +298,47 @@ def is_git_folder(folder: Path) -> bool:
     )
 
 
+def whole_path(word: str) -> Path:
+    """The whole path of a file as it was typed, without `..`. NoAnswer where a link before a `..`
+    leads elsewhere."""
+    typed = os.path.join(os.getcwd(), word)
+    whole = Path(os.path.normpath(typed))
+    if os.path.realpath(os.path.dirname(typed)) != os.path.realpath(whole.parent):
+        raise NoAnswer(f"{shown(word)}: there is a link on the way; type the path without it")
+    return whole
+
+
 def see_no_link_to_here() -> None:
     """NoAnswer where the shell came to the working folder by a link within a repository: then the
     path that was meant is another one than that of the working folder."""
     here = os.environ.get("PWD", "")
     if not os.path.isabs(here) or not are_one(Path(here), Path.cwd()):
         return
-    is_within = False
-    for each in (*reversed(Path(here).parents), Path(here)):
-        if is_within and each.is_symlink():
-            raise NoAnswer(f"{shown(str(each))}: the working folder was reached by this link")
-        is_within = is_within or os.path.lexists(each / ".git")
+    link = link_within(Path(here))
+    if link is not None:
+        raise NoAnswer(f"{shown(str(link))}: the working folder was reached by this link")
+
+
+def link_within(folder: Path) -> Path | None:
+    """The first link that is followed on the way to a folder and lies in a repository, also where
+    another link leads to it. Such a link may come from a commit. NoAnswer where it is a loop."""
+    left = [*reversed(folder.parts)]
+    here, links = Path(left.pop()), 0
+    while left:
+        part = left.pop()
+        here = here.parent if part == ".." else here / part
+        if not here.is_symlink():
+            continue
+        if any(os.path.lexists(each / ".git") for each in here.parents):
+            return here
+        links += 1
+        if links > MOST_LINKS:
+            raise NoAnswer(f"{shown(str(folder))}: there are too many links on the way")
+        target = Path(os.readlink(here))
+        parts = target.parts
+        here = Path(target.anchor) if target.is_absolute() else here.parent
+        left += reversed(parts[1:] if target.is_absolute() else parts)
+    return None
 
 
 def repository_of(folder: Path) -> Repository:
@@ -332,6 +362,29 @@ def repository_of(folder: Path) -> Repository:
     if inner is None:
         raise NoRepository(f"{shown(str(folder))}: not a git repository")
     return discovered(inner)
+
+
+def repository_with(word: str) -> Repository:
+    """The repository in which the folder of a file lies, whatever the working folder is.
+
+    NoAnswer where there is none, or where a link that lies in a repository is on the way: it may
+    come from a commit, and what a commit brings chooses no repository.
+    """
+    folder = whole_path(word).parent
+    link = link_within(folder)
+    if link is not None:
+        raise NoAnswer(f"{shown(word)}: {shown(str(link))} is a link, and lies in a repository")
+    try:
+        found = repository_of(folder)
+    except NoRepository:
+        where = shown(str(folder))
+        raise NoAnswer(f"{shown(word)}: its folder {where} lies in no git repository") from None
+    if not found.has_within(word):
+        where = shown(str(found.top))
+        raise NoAnswer(
+            f"{shown(word)}: a link leads into the repository {where}; type its own path"
+        )
+    return found
 
 
 def discovered(top: Path) -> Repository:

@@ -5,6 +5,7 @@ import json
 import os
 import random
 import unittest
+from pathlib import Path
 
 from query.answers.errors import NoAnswer
 from query.git.objects import Objects
@@ -113,7 +114,8 @@ class Revisions(History):
         self.refuses("history", "-", "HEAD", why="the path of a file")
         self.refuses("history", "HEAD:db.mm", "HEAD", why="the path of a file")
         self.refuses("history", ".", "HEAD", why="the path of a file")
-        self.refuses("history", "/etc/passwd", "HEAD", why="not in the repository")
+        why = "/etc/passwd: its folder /etc lies in no git repository"
+        self.refuses("history", "/etc/passwd", "HEAD", why=why)
         new = changed(BASE, ("ax-ac2 $a |- ( p -> ( p -> p ) ) $.", "ax-x $a |- p $."))
         self.commit(new.replace("wp ax-ac2", "wp wp ax-1"))
         self.assertEqual(self.of("db.mm", "HEAD", "ax-x"), [None, None, 0])
@@ -269,6 +271,94 @@ class Revisions(History):
         self.assertEqual(self.of(*OF_AC), [2])
         self.assertEqual(self.of("../db.mm", "HEAD", "ax-ac2"), [2])
         self.folder = folder
+
+
+class Elsewhere(History):
+    """The repository is the one in which the file's folder lies. In that of the working folder two
+    theorems rest on `ax-ac2`, in the other one none does."""
+
+    def setUp(self) -> None:
+        super().setUp()
+        self.other = self.folder.parent / "other"
+        self.made(self.other)
+
+    def made(self, folder: Path) -> None:
+        """Makes a repository in a folder, with a database of its own in it and in `sub`."""
+        self.git("init", "--quiet", "--initial-branch=trunk", str(folder))
+        (folder / "sub").mkdir()
+        for name in ("db.mm", "sub/db.mm", "only.mm"):
+            (folder / name).write_text(changed(BASE, FREED))
+        self.git("add", "--all", folder=folder)
+        self.git("commit", "--quiet", "--message", "another", folder=folder)
+
+    def test_another_repository(self) -> None:
+        for name in ("db.mm", "sub/db.mm", "only.mm"):
+            for path in (f"../other/{name}", str(self.other / name), f"./../other/sub/../{name}"):
+                self.assertEqual(self.of(path, "trunk", "ax-ac2"), [0], path)
+                self.refuses("history", path, "main", why="git has no revision 'main'")
+        self.assertEqual(self.of("../folder/db.mm", "main", "ax-ac2"), [2])
+        self.refuses("history", "db.mm", "trunk", why="git has no revision 'trunk'")
+        why = "../out.mm: its folder " + str(self.folder.parent) + " lies in no git repository"
+        self.refuses("history", "../out.mm", "trunk", why=why)
+        why = "no revision of trunk has gone/x.mm"
+        self.is_empty("../other/gone/x.mm", "trunk", why=why)
+
+    def test_outside_of_all_repositories(self) -> None:
+        """The working folder needs none."""
+        folder, self.folder = self.folder, self.folder.parent
+        self.assertEqual(self.of("other/db.mm", "trunk", "ax-ac2"), [0])
+        self.assertEqual(self.of("folder/db.mm", "main", "ax-ac2"), [2])
+        self.refuses("history", "db.mm", "main", why=f"{self.folder} lies in no git repository")
+        self.git("clone", "--quiet", "--bare", "other", "bare.git")
+        self.assertEqual(self.of("bare.git/db.mm", "trunk", "ax-ac2"), [0])
+        self.assertEqual(self.of("bare.git/sub/db.mm", "trunk", "ax-ac2"), [0])
+        self.folder = folder
+
+    def test_a_repository_within(self) -> None:
+        """It is the inner one. What a commit brings makes none."""
+        inner = self.folder / "inner"
+        self.made(inner)
+        self.assertEqual(self.of("inner/db.mm", "trunk", "ax-ac2"), [0])
+        self.assertEqual(self.of("inner/sub/db.mm", "trunk", "ax-ac2"), [0])
+        self.assertEqual(self.of("inner/../db.mm", "main", "ax-ac2"), [2])
+        self.git("clone", "--quiet", "--bare", str(inner), str(self.folder / "planted"))
+        self.write("planted/db.mm", BASE)
+        why = "has the files of a bare repository, and lies in the repository"
+        for path in ("planted/db.mm", "planted/sub/db.mm", "planted/refs/db.mm", ".git/db.mm"):
+            self.refuses("history", path, "HEAD", why=why)
+
+    def test_settings_of_another_repository(self) -> None:
+        """They run nothing, as those of the working folder's don't."""
+        marker = self.folder.parent / "marker"
+        touch = f"touch {marker}"
+        for name in ("core.fsmonitor", "core.pager", "pager.log", "diff.external"):
+            self.git("config", name, touch, folder=self.other)
+        self.git("config", "alias.log", f"!{touch}", folder=self.other)
+        self.assertEqual(self.of("../other/db.mm", "trunk", "ax-ac2"), [0])
+        self.assertFalse(marker.exists())
+
+    def test_links(self) -> None:
+        """One that lies in a repository may come from a commit, and chooses none."""
+        (self.folder / "link").symlink_to("../other")
+        (self.folder / "deep").mkdir()
+        (self.folder / "deep" / "link").symlink_to("../../other/sub")
+        for path in ("link/db.mm", "link/sub/db.mm", "deep/link/db.mm"):
+            self.refuses("history", path, "trunk", why="is a link, and lies in a repository")
+            self.refuses("history", str(self.folder / path), "trunk", why="link is a link")
+        self.refuses("history", "link/../db.mm", "main", why="there is a link on the way")
+        (self.folder / "file.mm").symlink_to("../other/db.mm")
+        self.refuses("history", "file.mm", "main", why="file.mm is a link")
+        (self.folder.parent / "chain").symlink_to("folder/link")
+        why = f"{self.folder}/link is a link, and lies in a repository"
+        self.refuses("history", "../chain/db.mm", "trunk", why=why)
+        (self.folder.parent / "loop").symlink_to("loop")
+        self.refuses("history", "../loop/db.mm", "trunk", why="there are too many links on the way")
+        outer = self.folder.parent / "outer"
+        outer.symlink_to(self.other)
+        self.assertEqual(self.of("../outer/db.mm", "trunk", "ax-ac2"), [0])
+        (self.folder.parent / "middle").symlink_to("other/sub")
+        why = "a link leads into the repository"
+        self.refuses("history", "../middle/db.mm", "trunk", why=why)
 
 
 class Kept(History):
