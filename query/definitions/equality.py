@@ -14,6 +14,7 @@ from typing import Any, NamedTuple, TypeGuard
 
 from query.formulas.grammar import Grammar, NotRead, Tree
 from query.formulas.syntax import PROVABLE, SETVAR, WFF
+from query.platform import progress
 from query.texts.assertions import Assertion
 
 MOST_SYMBOLS, MOST_GIVEN = 40, 16
@@ -82,7 +83,7 @@ class Facts:
     def __init__(
         self,
         grammar: Grammar,
-        assertions: Iterable[Assertion],
+        assertions: Sequence[Assertion],
         forms: Iterable[str],
         typecode: str = WFF,
     ) -> None:
@@ -91,7 +92,8 @@ class Facts:
         all_constants = {each for form in grammar.shapes for each in grammar.constants(form)}
         self.others = all_constants - wanted
         self.typecode = typecode
-        self.all = [fact for one in assertions if (fact := self.fact(one)) is not None]
+        counted = progress.counted(assertions, "reading what says something of equalities")
+        self.all = [fact for one in counted if (fact := self.fact(one)) is not None]
 
     def fact(self, one: Assertion) -> Fact | None:
         """What an assertion says; None where it can't be of use."""

@@ -19,6 +19,7 @@ from query.definitions.foundations import BEGINNING, Ground, Grounds, Rests, in_
 from query.formulas.ambiguity import Ambiguity, ambiguity
 from query.formulas.grammar import Grammar, NotRead, Part, Tree, Twofold
 from query.formulas.syntax import CLASS, PROVABLE, SETVAR, WFF, parts_within, read_as
+from query.platform import progress
 from query.texts.assertions import Assertion
 
 EQUATIONS = {("(", WFF, "<->", WFF, ")"), (CLASS, "=", CLASS)}
@@ -191,7 +192,7 @@ class Definitions:
         self.pair: str | None = None
         """A `$d` of an axiom for two variables of another typecode than `setvar`."""
         self.found: list[tuple[Assertion, Tree | Broken]] = []
-        for one in axioms:
+        for one in progress.counted(axioms, "reading axioms"):
             if not self.is_syntax(one):
                 self.read(one)
         self.forms: dict[str, Binding] = {
@@ -305,7 +306,7 @@ class Definitions:
                 equations[one.label] = self.equation(one, tree)
             except Broken as broken:
                 equations[one.label] = broken
-        for one, _ in found:
+        for one, _ in progress.counted(found, "judging definitions"):
             equation_or_not = equations[one.label]
             if isinstance(equation_or_not, Broken):
                 self.verdicts[one.label] = equation_or_not.verdict(one.label)

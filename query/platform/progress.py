@@ -1,10 +1,17 @@
 """A line on standard error, on a terminal alone, while a command takes longer than a second."""
 
 import os
+from collections.abc import Iterator, Sequence
 from types import FrameType
+from typing import TypeVar
 
 from query.answers.errors import CLEARED, progress_line, put, shown
 from query.platform import system
+
+
+Item = TypeVar("Item")
+STEP = 100
+"""After so many items the line is written anew."""
 
 
 class Line:
@@ -21,6 +28,14 @@ def now(doing: str) -> None:
     _line.doing = shown(doing)
     if progress_line.is_shown:
         _show()
+
+
+def counted(items: Sequence[Item], doing: str) -> Iterator[Item]:
+    """These items one by one, while the line says how many of them are done."""
+    for number, item in enumerate(items):
+        if number % STEP == 0:
+            now(f"{doing}, {number} of {len(items)} are done")
+        yield item
 
 
 def _show(*_: int | FrameType | None) -> None:

@@ -3,6 +3,7 @@ statement with all definitions unfolded."""
 
 import os
 import random
+import re
 import unittest
 from unittest import mock
 
@@ -70,6 +71,26 @@ class Needed(World):
     def needs(self, *words: str) -> list[dict[str, object]]:
         """The rows of an answer."""
         return asked_rows("needs", str(self.folder / "db.mm"), *words)
+
+    def test_it_says_how_far_it_is(self) -> None:
+        """Of how many axioms and statements, at each stage that goes through all of them."""
+        text = chained(random.Random(1))[0]
+        many = "".join(f"more{number} $a |- ph $.\n" for number in range(250))
+        path = str(self.folder / self.write("db.mm", text + many))
+        said: list[str] = []
+        with (
+            mock.patch.dict(os.environ, {"MMDEPEND": built_program()}),
+            mock.patch("query.platform.progress.now", said.append),
+        ):
+            asked_rows("needs", path, "t0")
+        told = [re.fullmatch("(.*), ([0-9]+) of ([0-9]+) are done", each) for each in said]
+        stages: dict[str, list[tuple[int, int]]] = {}
+        for match in filter(None, told):
+            stages.setdefault(match[1], []).append((int(match[2]), int(match[3])))
+        self.assertLess({"reading axioms", "judging definitions"}, {*stages})
+        for stage, numbers in stages.items():
+            self.assertEqual(len({whole for _, whole in numbers}), 1, stage)
+            self.assertEqual([done for done, _ in numbers], [*range(0, numbers[0][1], 100)], stage)
 
     def test_by_chance(self) -> None:
         deepest = 0

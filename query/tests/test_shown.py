@@ -109,6 +109,15 @@ class Terminal(World):
         ):
             self.is_harmless(self.on_terminal(*words))
 
+    def test_how_far_it_is(self) -> None:
+        """Of many things each hundredth is told."""
+        said: list[str] = []
+        with mock.patch("query.platform.progress.now", said.append):
+            items = [*range(250)]
+            self.assertEqual([*progress.counted(items, "reading")], items)
+            self.assertEqual([*progress.counted([], "reading")], [])
+        self.assertEqual(said, [f"reading, {done} of 250 are done" for done in (0, 100, 200)])
+
     def test_a_notice_while_a_line_of_progress_stands(self) -> None:
         said: list[str] = []
         with mock.patch("query.answers.errors.put", said.append), mock.patch(
