@@ -5,7 +5,7 @@ row; then the axioms. A theorem cites only theorems before it.
 """
 
 from array import array
-from collections.abc import Iterable, Iterator, Set
+from collections.abc import Callable, Iterable, Iterator, Set
 from functools import cached_property
 
 from query.answers.errors import NEAR_LABEL, NoAnswer, nearest, shown
@@ -37,14 +37,22 @@ class Graph:
     `labels` has the label of each node: those of `theorems` theorems, in file order, and then
     those of axioms (with `--open` also of open theorems). Of a report these are its columns and
     what is cited. `cites[i]` is what node `i` cites, in file order; for an axiom nothing. `name` is
-    how messages call the database.
+    how messages call the database, and `remark` what they say of a word that is no label, or "".
     """
 
-    def __init__(self, name: str, labels: list[str], theorems: int, cites: Lists) -> None:
+    def __init__(
+        self,
+        name: str,
+        labels: list[str],
+        theorems: int,
+        cites: Lists,
+        remark: Callable[[str], str] = lambda word: "",
+    ) -> None:
         self.name = name
         self.labels = labels
         self.theorems = theorems
         self.cites = cites
+        self.remark = remark
 
     @cached_property
     def index(self) -> dict[str, int]:
@@ -75,7 +83,7 @@ class Graph:
     def see(self, label: str) -> None:
         """NoAnswer where there is neither an axiom nor a theorem of this label."""
         if label not in self.index:
-            meant = nearest(label, self.index, NEAR_LABEL)
+            meant = self.remark(label) or nearest(label, self.index, NEAR_LABEL)
             raise NoAnswer(
                 f"{self.name}: has neither a theorem nor an axiom '{shown(label)}'{meant}"
             )

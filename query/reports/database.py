@@ -20,7 +20,7 @@ from query.reports.choice import Options
 from query.reports.content import ReportContent
 from query.reports.handed_in import checked
 from query.reports.of_program import COUNTS, SECTIONS, head_counts, report_content
-from query.texts.assertions import Assertion, Damaged
+from query.texts.assertions import Assertion, Damaged, has_symbol
 
 if TYPE_CHECKING:
     from query.texts.text import Text
@@ -51,6 +51,8 @@ class Dependence:
     graph_if_known: Graph | None
     left_out: Callable[[str], str] = lambda label: ""
     """Why an axiom isn't among those chosen, as the end of a sentence."""
+    remark: Callable[[str], str] = lambda word: ""
+    """What a word that is no label is instead, in the same way."""
 
     @cached_property
     def rows(self) -> dict[str, int]:
@@ -115,13 +117,14 @@ class Dependence:
     def see_theorem(self, label: str) -> None:
         """NoAnswer where there is no theorem of this label."""
         if label not in self.rows:
-            meant = nearest(label, self.rows, NEAR_LABEL)
+            meant = self.remark(label) or nearest(label, self.rows, NEAR_LABEL)
             raise NoAnswer(f"{self.name}: has no theorem '{shown(label)}'{meant}")
 
     def see_axiom(self, label: str) -> None:
         """NoAnswer where no axiom of this label is among those chosen."""
         if label not in self.columns:
-            why = self.left_out(label) or nearest(label, self.columns, NEAR_LABEL)
+            why = self.left_out(label) or self.remark(label)
+            why = why or nearest(label, self.columns, NEAR_LABEL)
             raise NoAnswer(f"{self.name}: has no axiom{self.which} '{shown(label)}'{why}")
 
     def row(self, label: str) -> int:
@@ -191,13 +194,24 @@ class Database:
         # It takes 12 milliseconds, and many answers need no text.
         from query.texts.text import Text
 
-        return Text(self.data(), self.content.statements if self.told is None else self.told)
+        return Text(self.data(), self.lines)
+
+    @property
+    def lines(self) -> bytes:
+        """The lines of the section `statements`; none of a report."""
+        return self.content.statements if self.told is None else self.told
+
+    def symbol(self, word: str) -> str:
+        """That a word is a symbol, as the end of a sentence; "" where no statement has it."""
+        if not has_symbol(self.lines, word):
+            return ""
+        return "; it is a symbol, and `mmquery search` finds the statements that have it"
 
     def assertion(self, label: str) -> Assertion:
         """The assertion of a label. NoAnswer where there is none."""
         found = self.text.find(label)
         if found is None:
-            meant = nearest(label, self.text.by_label, NEAR_LABEL)
+            meant = self.symbol(label) or nearest(label, self.text.by_label, NEAR_LABEL)
             raise NoAnswer(f"{self.name}: has no assertion '{shown(label)}'{meant}")
         return found
 
@@ -280,7 +294,7 @@ class Database:
         labels = found.theorems + found.columns + found.others
         if not found.theorems and not found.columns:
             raise NoAnswer(f"{self.name}: {NOTHING}")
-        return Graph(self.name, labels, len(found.theorems), cites)
+        return Graph(self.name, labels, len(found.theorems), cites, self.symbol)
 
     def dependence(self) -> Dependence:
         """Marks and citations together. NoAnswer where the database is refused, the report is
@@ -304,6 +318,7 @@ class Database:
             chosen,
             graph,
             self.left_out,
+            self.symbol,
         )
 
     def of_typecode(self) -> Sequence[int]:

@@ -124,6 +124,20 @@ def typecode_of(letter: str, said: str) -> str:
     return formula_of(letter, said).partition(" ")[0]
 
 
+def has_symbol(section: bytes, word: str) -> bool:
+    """Whether a formula or a pair of the section has a symbol. Labels of hypotheses, which stand
+    behind `$f` and `$e`, are none."""
+    if not re.fullmatch(SYMBOL, word):
+        return False
+    for between in (f" {word} ".encode(), f" {word}\n".encode()):
+        place = section.find(between)
+        while place >= 0:
+            if section[max(place - 2, 0) : place] not in (b"$f", b"$e"):
+                return True
+            place = section.find(between, place + 1)
+    return False
+
+
 class Fields(NamedTuple):
     """The fields of the lines, a list for each."""
 
