@@ -3,12 +3,17 @@
 from collections.abc import Collection, Iterable, Mapping, Sequence
 from dataclasses import dataclass, field
 from types import MappingProxyType
+from typing import TypeVar
 
 from query.answers.errors import tell
 from query.answers.output import Output, Value
 from query.arguments.filters import Filters, Test
 from query.reports.choice import Options
 from query.reports.database import Database
+
+Row = TypeVar("Row")
+LARGER = "a larger N"
+"""By which word a list is longer that is cut by a word N, and not by the option `--most`."""
 
 
 @dataclass
@@ -49,6 +54,18 @@ class Context:
         if rows and not left:
             self.tell(f"none of the {len(rows)} that there are passes the filters")
         return left
+
+    def first(
+        self, rows: Sequence[Row], most: int | None, word: str = "--most N", also: str = ""
+    ) -> Sequence[Row]:
+        """The first rows, as many as are wanted; all of them where no number is given. Where that
+        cuts the list, standard error says so, and by which word of the command it is longer.
+        `also` is a remark of the command itself, which stands on the same line."""
+        is_cut = most is not None and most < len(rows)
+        cut = f"{most} of {len(rows)} rows; {word} shows more" if is_cut else ""
+        if self.asked is not None and (cut or also):
+            self.tell(f"{self.asked.name}: {'; '.join(filter(None, (cut, also)))}")
+        return rows[:most]
 
     def table(
         self,

@@ -34,9 +34,10 @@ FIRST_DAY, LAST_DAY = "0001-01-01", "9999-12-31"
 
 @dataclass(frozen=True)
 class Filters:
-    """The filters that are given. `like` and `unlike` are patterns, `among` names of files, `since`
-    and `until` days as ISO 8601 writes them."""
+    """The filters that are given. `like` and `unlike` are patterns, `among` and `not_among` names
+    of files, `since` and `until` days as ISO 8601 writes them."""
 
+    after: str | None = None
     before: str | None = None
     main: bool = False
     mathbox: str | None = None
@@ -44,6 +45,7 @@ class Filters:
     like: tuple[str, ...] = ()
     unlike: tuple[str, ...] = ()
     among: tuple[str, ...] = ()
+    not_among: tuple[str, ...] = ()
     contributor: str | None = None
     since: str | None = None
     until: str | None = None
@@ -62,17 +64,12 @@ class Filters:
 
     def _tests_of_places(self, database: Database) -> list[Test]:
         """The tests of where an assertion stands."""
-        if self.before is None and self.mathbox is None and self.under is None and not self.main:
+        named = (self.after, self.before, self.mathbox, self.under)
+        if all(each is None for each in named) and not self.main:
             return []
         text = database.text
-        name = database.name
-        stretches: list[tuple[int, int]] = []
-        if self.before is not None:
-            stretches.append((0, database.assertion(self.before).number))
-        if self.under is not None:
-            header = header_of(text, name, self.under)
-            stretches.append((header.first, header.end))
-        boxes = None if self.mathbox is None else mathboxes_of(text, name, self.mathbox)
+        stretches = self._stretches(database)
+        boxes = None if self.mathbox is None else mathboxes_of(text, database.name, self.mathbox)
 
         def stands(label: str) -> bool:
             one = text.by_label[label]
@@ -83,6 +80,20 @@ class Filters:
 
         return [stands]
 
+    def _stretches(self, database: Database) -> list[tuple[int, int]]:
+        """The stretches of assertions in which one has to stand: the number of the first, and that
+        behind the last."""
+        text = database.text
+        stretches: list[tuple[int, int]] = []
+        if self.after is not None:
+            stretches.append((database.assertion(self.after).number + 1, len(text.assertions)))
+        if self.before is not None:
+            stretches.append((0, database.assertion(self.before).number))
+        if self.under is not None:
+            header = header_of(text, database.name, self.under)
+            stretches.append((header.first, header.end))
+        return stretches
+
     def _tests_of_labels(self) -> list[Test]:
         """The tests of the label alone."""
         tests: list[Test] = []
@@ -91,8 +102,9 @@ class Filters:
         if self.unlike:
             tests.append(lambda label: not any(fnmatchcase(label, each) for each in self.unlike))
         for path in self.among:
-            labels = {word for _, word in words_in(os.fspath(path))}
-            tests.append(labels.__contains__)
+            tests.append(labels_in(path).__contains__)
+        for path in self.not_among:
+            tests.append(outside(labels_in(path)))
         return tests
 
     def _tests_of_comments(self, database: Database) -> list[Test]:
@@ -112,6 +124,16 @@ class Filters:
             return not is_of_days or (day is not None and first <= day <= last)
 
         return [is_theirs]
+
+
+def labels_in(path: str) -> set[str]:
+    """The labels that a file has. NoAnswer where it can't be read."""
+    return {word for _, word in words_in(os.fspath(path))}
+
+
+def outside(labels: set[str]) -> Test:
+    """Whether a label isn't one of these, as a test."""
+    return lambda label: label not in labels
 
 
 def header_of(text: Text, name: str, wanted: str, level: int | None = None) -> Header:
@@ -179,6 +201,7 @@ def add_filters(parser: Parser) -> None:
     """Adds the filters."""
     group = parser.add_argument_group("filters of the list")
     parser.value("--before", "T", "only what stands before T", group=group)
+    parser.value("--after", "T", "only what stands after T", group=group)
     parser.flag("--main", "only what stands in no mathbox", group=group)
     parser.value("--mathbox", "NAME", "only what stands in NAME's mathbox", group=group)
     under = "only what the header of this number or title has below it"
@@ -187,6 +210,7 @@ def add_filters(parser: Parser) -> None:
     parser.values("--like", "PATTERN", like, group=group)
     parser.values("--not", "PATTERN", "no labels like PATTERN", group=group, dest="unlike")
     parser.values("--among", "FILE", "only labels that FILE has", group=group)
+    parser.values("--not-among", "FILE", "no labels that FILE has", group=group)
     by = "only what NAME contributed, as comments say: (Contributed by NAME, 5-Aug-1993.)"
     parser.value("--contributor", "NAME", by, group=group)
     since = "only what was contributed on DATE or later: 2014 or 2014-05-31"
@@ -198,6 +222,7 @@ def add_filters(parser: Parser) -> None:
 def filters_of(arguments: argparse.Namespace) -> Filters:
     """The filters among the arguments of a command."""
     return Filters(
+        after=arguments.after,
         before=arguments.before,
         main=arguments.main,
         mathbox=arguments.mathbox,
@@ -205,6 +230,7 @@ def filters_of(arguments: argparse.Namespace) -> Filters:
         like=patterns(arguments.like),
         unlike=patterns(arguments.unlike),
         among=tuple(arguments.among),
+        not_among=tuple(arguments.not_among),
         contributor=arguments.contributor,
         since=arguments.since,
         until=arguments.until,

@@ -1,8 +1,9 @@
 """Citations of some assertions, those that lead into a mathbox from outside it or from one header
-to another, and what in mathboxes rests on nothing in them."""
+to another, what in mathboxes rests on nothing in them, and what may stand before a place."""
 
 from __future__ import annotations
 
+from bisect import bisect_right
 from collections.abc import Iterable, Iterator
 
 from query.citations.graph import Graph
@@ -51,6 +52,29 @@ def fit_for_main(graph: Graph, text: Text) -> list[int]:
         and resting.isdisjoint(graph.cites[node])
         and known.issuperset(constants_of(text.by_label[graph.labels[node]]))
     ]
+
+
+def fit_before(graph: Graph, text: Text, place: Assertion) -> list[int]:
+    """The theorems behind an assertion that cite nothing from it on, and have no constant that is
+    declared there; in file order."""
+    numbers = [text.by_label[label].number for label in graph.labels]
+    behind = bisect_right(numbers, place.number, hi=graph.theorems)
+    found = []
+    for node in range(behind, graph.theorems):
+        if all(numbers[cited] < place.number for cited in graph.cites[node]):
+            found.append(node)
+    if not found:
+        return []
+    known = text.constants_before(place)
+    return [
+        node for node in found if known.issuperset(constants_of(text.by_label[graph.labels[node]]))
+    ]
+
+
+def last_cited(graph: Graph, text: Text, theorem: int) -> Assertion | None:
+    """The last assertion that the proof of a theorem cites; None where it cites nothing."""
+    cited = [text.by_label[graph.labels[node]] for node in graph.cites[theorem]]
+    return max(cited, key=lambda one: one.number) if cited else None
 
 
 def symbols_of_main(text: Text) -> set[str]:

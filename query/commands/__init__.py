@@ -76,7 +76,7 @@ INDEX: dict[str, tuple[str, str]] = {
     "search": ("search", "which formulas have a pattern, by what may stand for its variables"),
     "needs": ("definitions", "the definitions under the symbols of a statement"),
     "drop": ("drop", "whether LABELs may be dropped, and what is in the way"),
-    "move": ("move", "what has to go along where THEOREM is moved"),
+    "move": ("move", "what goes along where THEOREM is moved, or what may be moved as it is"),
     "graph": ("graphs", "the citations as DOT, GraphML or a list of edges"),
     "picture": ("graphs", "a picture of which theorem rests on which axiom"),
     "page": ("page", "one HTML file that shows the whole database"),

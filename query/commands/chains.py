@@ -439,11 +439,9 @@ def put_most(context: Context, asked: Asked, most: int) -> None:
     if not freeing:
         context.tell(nothing_left(asked))
     found: list[list[Value]] = [[freed, asked.graph.labels[node]] for freed, node in freeing]
-    listed = context.passing(found, 1)[:most]
-    context.out.table(FREED, listed)
+    listed = context.passing(found, 1)
     remark = asked.remark(asked.graph.node(str(listed[0][1]))) if listed else ""
-    if remark:
-        context.tell(f"{asked.graph.name}: {remark}")
+    context.out.table(FREED, context.first(listed, most, also=remark))
 
 
 def nothing_left(asked: Asked) -> str:

@@ -72,7 +72,7 @@ def run(context: Context, arguments: argparse.Namespace) -> int:
     ]
     which = " that passes the filters" if theorems else ""
     why = f"{database.name}: has no theorem{which}"
-    context.table(COLUMNS, rows[: arguments.most], why)
+    context.table(COLUMNS, context.first(rows, arguments.most), why)
     return 0
 
 

@@ -46,9 +46,18 @@ With --only or --axioms, a LABEL that is an axiom has to be one of those. With s
 rests on any one of them (--any-of, the default), or on each of them (--all-of). --without LABEL
 leaves out what rests on that one too; it may be given several times.
 
+With --count, how many these are in place of the list: a row for each LABEL, in the order in which
+they are given, and with several a last row for all of them together, which tells how many rest on
+any one of them, or with --all-of on each of them. The filters choose which theorems are counted.
+
+theorems  how many theorems rest on it
+labels    which of the LABELs: one, or in the last row all; with a single one the form text leaves
+          it out
+
   $ mmquery falls set.mm ax-ac2
   $ mmquery falls set.mm ax-reg ax-inf2 --all-of
   $ mmquery falls set.mm ax-reg --without ax-ac2
+  $ mmquery falls set.mm ax-reg ax-ac2 --count --main
 """
 
 
@@ -172,6 +181,7 @@ def configure_falls(parser: Parser) -> None:
     }
     add_question(parser, flags)
     parser.values("--without", "LABEL", "leave out what rests on LABEL; may be given several times")
+    parser.flag("--count", "how many these are, for each LABEL and for all together")
     add_choice_of_axioms(parser)
 
 
@@ -183,10 +193,13 @@ def run_falls(context: Context, arguments: argparse.Namespace) -> int:
             if label not in database.content.theorems:
                 database.dependence().see_axiom(label)
     labels = list(dict.fromkeys(arguments.labels))
-    rows = union(users_of(database, label) for label in labels)
     left_out = {row for label in arguments.without for row in users_of(database, label)}
+    users = [users_of(database, label) - left_out for label in labels]
+    if arguments.count:
+        put_counts(context, database, labels, users, arguments.all_of)
+        return 0
     least = len(labels) if arguments.all_of else 1
-    rows = {row: of for row, of in rows.items() if len(of) >= least and row not in left_out}
+    rows = {row: of for row, of in union(users).items() if len(of) >= least}
     word = "each" if arguments.all_of else "any"
     names = shown(", ".join(labels))
     which = names if len(labels) == 1 else f"{word} of {names}"
@@ -195,6 +208,24 @@ def run_falls(context: Context, arguments: argparse.Namespace) -> int:
     theorems = database.content.theorems
     put_union(context, "theorem", theorems, rows, labels, why, arguments.all_of)
     return 0
+
+
+def put_counts(
+    context: Context,
+    database: Database,
+    labels: list[str],
+    users: Sequence[set[int]],
+    is_all: bool,
+) -> None:
+    """Answers with how many of the theorems that pass the filters rest on each label, and behind
+    several how many rest on all of them, or on any one."""
+    theorems, passes = database.content.theorems, context.test()
+    together = set.intersection(*users) if is_all else set.union(*users)
+    asked = [*zip(users, ([label] for label in labels))]
+    asked += [(together, labels)] if len(labels) > 1 else []
+    counted = {row for row in set.union(*users) if passes(theorems[row])}
+    rows: list[list[Value]] = [[len(each & counted), whose] for each, whose in asked]
+    context.out.table(["theorems", "labels"], rows, aside_of(labels))
 
 
 def users_of(database: Database, label: str) -> set[int]:

@@ -65,7 +65,8 @@ def run(context: Context, arguments: argparse.Namespace) -> int:
     passing = context.passing(rows, 3)
     if not arguments.labels:
         column = COLUMNS.index(arguments.by)
-        passing = sorted(passing, key=lambda row: -int(str(row[column])))[: arguments.most]
+        ranked = sorted(passing, key=lambda row: -int(str(row[column])))
+        passing = [*context.first(ranked, arguments.most)]
     context.out.table(COLUMNS, [[*row, *whose(database.text, str(row[3]))] for row in passing])
     return 0
 

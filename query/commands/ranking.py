@@ -2,11 +2,12 @@
 rest."""
 
 import argparse
+from collections.abc import Sequence
 from hashlib import blake2b
 
 from query.answers.errors import NoAnswer
 from query.answers.output import Value
-from query.arguments.context import Context
+from query.arguments.context import LARGER, Context
 from query.arguments.label_files import add_list, labels_of
 from query.arguments.options import Parser, add_choice_of_axioms, add_database, options_of, positive
 from query.commands import Command
@@ -150,9 +151,10 @@ def put_ranking(context: Context, arguments: argparse.Namespace, database: Datab
         why = f"{dependence.name}: on each axiom{dependence.which} {most}"
     if not rows:
         context.tell(why)
-    passing = context.passing(rows, len(columns) - 1)
+    passing: Sequence[Sequence[Value]] = context.passing(rows, len(columns) - 1)
     if arguments.below is None or arguments.number is not None:
-        passing = sorted(passing, key=lambda row: -int(str(row[0])))[: arguments.number or 10]
+        passing = sorted(passing, key=lambda row: -int(str(row[0])))
+        passing = context.first(passing, arguments.number or 10, LARGER)
     context.out.table(columns, passing)
 
 
@@ -186,7 +188,8 @@ def run_sets(context: Context, arguments: argparse.Namespace) -> int:
         rows = axioms_of_theorems(dependence, chosen)
         none = f"has no theorem{' that passes the filters' if dependence.theorems else ''}"
     rows.sort(key=lambda row: -int(str(row[0])))
-    context.table(SETS, rows[: arguments.number], f"{dependence.name}: {none}")
+    listed = context.first(rows, arguments.number, LARGER)
+    context.table(SETS, listed, f"{dependence.name}: {none}")
     return 0
 
 

@@ -20,6 +20,8 @@ quotes, as in '"A ~~ B ->"', a variable stands for itself, too. One that begins 
 --, after which nothing is an option. Where no formula has a PATTERN, standard error says how many
 have it with more brackets, as ( A + B ) for A + B, or both sides of its one ->.
 
+With --no-hypotheses the formulas of statements alone, and not those of their $e.
+
 With --given PATTERN only those of statements that have a $e with that pattern too; with several, a
 $e for each. In all patterns together a variable stands for the same.
 
@@ -28,7 +30,7 @@ given    the label of the $e whose formula it is; nothing where it is that of th
 formula  the formula
 
   $ mmquery search set.mm 'A ~~ B ->' --main
-  $ mmquery search set.mm '"|- -. -. ph"'
+  $ mmquery search set.mm '"|- -. -. ph"' --no-hypotheses
   $ mmquery search set.mm '|- A = B' --given 'A C_ B' --given 'B C_ A'
   $ mmquery search -- set.mm '-. A = B'
 """
@@ -43,6 +45,7 @@ def configure(parser: Parser) -> None:
     add_database(parser)
     parser.add_argument("patterns", metavar="PATTERN", nargs="+")
     parser.values("--given", "PATTERN", "only where a $e has PATTERN; may be given several times")
+    parser.flag("--no-hypotheses", "leave out the formulas of $e")
     add_open(parser)
 
 
@@ -55,7 +58,8 @@ def run(context: Context, arguments: argparse.Namespace) -> int:
         for words in (arguments.patterns, arguments.given)
     )
     passes = context.test()
-    searcher = Searcher([one for one in text.assertions if passes(one.label)], text.assertions)
+    wanted = [one for one in text.assertions if passes(one.label)]
+    searcher = Searcher(wanted, text.assertions, not arguments.no_hypotheses)
     rows: list[list[Value]] = []
     for hit in searcher.hits(patterns, given):
         rows.append([hit.one.label, hit.given, hit.formula])
@@ -63,10 +67,12 @@ def run(context: Context, arguments: argparse.Namespace) -> int:
         told: [label for label, _ in places]
         for told, places in ((UNREAD, searcher.unread), (GIVEN_UP, searcher.given_up))
     }
-    why = f"{database.name}: no formula has that"
+    whose = " of a statement itself" if arguments.no_hypotheses else ""
+    why = f"{database.name}: no formula{whose} has that"
     if not rows and not given and len(patterns) == 1 and '"' not in arguments.patterns[0]:
         why += near(searcher, text, database.name, patterns[0])
-    context.table(COLUMNS, rows, why, remarks=remarks)
+    aside = ["given"] if arguments.no_hypotheses else []
+    context.table(COLUMNS, rows, why, aside=aside, remarks=remarks)
     return 0
 
 

@@ -8,7 +8,7 @@ from collections.abc import Sequence
 from query.answers.errors import NoAnswer, shown
 from query.answers.output import Value
 from query.arguments.context import Context
-from query.arguments.filters import header_of
+from query.arguments.filters import header_of, mathboxes_of
 from query.arguments.options import (
     Parser,
     add_choice_of_axioms,
@@ -17,7 +17,13 @@ from query.arguments.options import (
     options_of,
     positive,
 )
-from query.citations.crossing import across_mathboxes, citations, citing_headers, fit_for_main
+from query.citations.crossing import (
+    across_mathboxes,
+    citations,
+    citing_headers,
+    fit_for_main,
+    last_cited,
+)
 from query.citations.graph import Graph
 from query.commands import Command
 from query.reports.choice import Options
@@ -66,6 +72,9 @@ With --of HEADER, a number or a title, only the rows that have it, on either sid
 LEVELS = ("part", "chapter", "section", "subsection")
 """The levels of headers, the outermost first."""
 
+ORDER = ("line", "kind", "typecode", "count", "label", "header")
+"""The columns of `order`."""
+
 ORDER_PAGE = """
 Lists axioms and theorems together, in file order.
 
@@ -77,8 +86,13 @@ count     of a theorem, on how many axioms it rests; of an axiom, how many theor
 label     which one
 header    the number of the header under which it stands, as `chapters` numbers it
 
+With --columns, behind these one for each AXIOM, which has its label for a name: whether a theorem
+rests on the axiom, yes or no (true or false in the other formats); nothing for what isn't a
+theorem. With --format=csv it is a table for a spreadsheet.
+
   $ mmquery order set.mm
   $ mmquery order set.mm --like 2p2e4
+  $ mmquery order set.mm --columns ax-reg,ax-ac2 --format=csv
 """
 
 UNFINISHED_PAGE = """
@@ -119,6 +133,9 @@ mathbox  in whose mathbox it is; none where it isn't in one
 cited    what it cites
 of       in whose mathbox that is
 
+With --of NAME only the citations of what stands in NAME's mathbox. The filter --mathbox NAME goes
+by who cites: with it only those by what stands in NAME's mathbox.
+
 With --ready, the theorems in mathboxes that may stand in the main part as they are: they rest on
 nothing that is in a mathbox, and have no symbol that only formulas in mathboxes have.
 
@@ -132,6 +149,7 @@ The variables of such a theorem have to be declared there too. That no statement
 says the same is told by `repeats`.
 
   $ mmquery mathboxes set.mm
+  $ mmquery mathboxes set.mm --of 'Mario Carneiro'
   $ mmquery mathboxes set.mm --ready --mathbox 'Mario Carneiro'
 """
 
@@ -188,9 +206,6 @@ def run_chapters(context: Context, arguments: argparse.Namespace) -> int:
     about = ["axiom", "rest", "first"]
     if arguments.by is not None:
         rows.sort(key=lambda row: rank_of(row, arguments.by))
-    if arguments.most is not None and arguments.most < len(rows):
-        context.tell(f"{database.name}: {arguments.most} of {len(rows)} rows; --most N shows more")
-        rows = rows[: arguments.most]
     none = f"no theorem rests on {' or '.join(arguments.axiom)}" if asked else "has no theorem"
     if arguments.level and not any(
         LEVELS[header.level] == arguments.level for header in database.text.headers
@@ -198,7 +213,7 @@ def run_chapters(context: Context, arguments: argparse.Namespace) -> int:
         none = f"has no header of the level '{arguments.level}'"
     context.table(
         ["number", "theorems", *about, "title", "share"],
-        rows,
+        context.first(rows, arguments.most),
         f"{database.name}: {none}",
         aside=[] if asked else [*about, "share"],
     )
@@ -263,7 +278,8 @@ def put_between(context: Context, database: Database, arguments: argparse.Namesp
             rows.append([*numbers, count, first, *titles])
     which = f" of the level '{arguments.between}'" if asked is None else f" beside {asked.number}"
     why = f"{database.name}: no header{which} cites what another one has"
-    context.table(["number", "on", "theorems", "first", "title", "of"], rows, why)
+    listed = context.first(rows, arguments.most)
+    context.table(["number", "on", "theorems", "first", "title", "of"], listed, why)
 
 
 def counted_axioms(
@@ -280,6 +296,8 @@ def counted_axioms(
 def configure_order(parser: Parser) -> None:
     """The words and options of `order`."""
     add_database(parser)
+    about = "a column for AXIOM, whether a theorem rests on it; several: by commas, or more options"
+    parser.values("--columns", "AXIOM", about)
     add_choice_of_axioms(parser)
 
 
@@ -287,6 +305,7 @@ def run_order(context: Context, arguments: argparse.Namespace) -> int:
     """Answers `order`."""
     database = context.database(arguments.database, options_of(arguments))
     dependence = database.dependence()
+    marked = marks_of(dependence, arguments.columns)
     text = database.text
     counts = dict(zip(dependence.axioms, dependence.sizes()))
     for row, label in enumerate(dependence.theorems):
@@ -296,10 +315,27 @@ def run_order(context: Context, arguments: argparse.Namespace) -> int:
         kind = "open" if one.is_open else "axiom" if one.kind == "a" else "theorem"
         line = text.line(one.place)
         count, header = counts.get(one.label), text.chapter_number(one)
-        rows.append([line, kind, one.typecode, count, one.label, header])
-    columns = ["line", "kind", "typecode", "count", "label", "header"]
+        own = dependence.rows.get(one.label)
+        marks = [None if own is None else each[own] == 1 for each in marked.values()]
+        rows.append([line, kind, one.typecode, count, one.label, header, *marks])
+    columns = [*ORDER, *marked]
     context.out.table(columns, context.passing(rows, columns.index("label")))
     return 0
+
+
+def marks_of(dependence: Dependence, words: Sequence[str]) -> dict[str, bytes]:
+    """For each axiom that the words of `--columns` name the marks of its column. NoAnswer where one
+    isn't among those chosen, or can't have a column of its name."""
+    found: dict[str, bytes] = {}
+    labels = [label for word in words for label in word.split(",") if label]
+    if words and not labels:
+        raise NoAnswer("--columns wants an AXIOM")
+    for label in labels:
+        column = dependence.column(label)
+        if label in ORDER:
+            raise NoAnswer(f"{dependence.name}: the axiom {label} has the name of another column")
+        found[label] = dependence.marked(column)
+    return found
 
 
 def configure_unfinished(parser: Parser) -> None:
@@ -392,6 +428,8 @@ def run_discouraged(context: Context, arguments: argparse.Namespace) -> int:
 def configure_mathboxes(parser: Parser) -> None:
     """The words and options of `mathboxes`."""
     add_database(parser)
+    parser.exclude("--of", "--ready")
+    parser.value("--of", "NAME", "only citations of what stands in NAME's mathbox")
     parser.flag("--ready", "the theorems of mathboxes that may stand in the main part")
     add_choice_of_citations(parser)
 
@@ -403,13 +441,16 @@ def run_mathboxes(context: Context, arguments: argparse.Namespace) -> int:
     if arguments.ready:
         put_ready(context, graph, database.text)
         return 0
-    rows = across_mathboxes(graph, database.text)
-    context.table(
-        ["theorem", "mathbox", "cited", "of"],
-        [[user, box, cited, other] for user, cited, box, other in rows],
-        f"{database.name}: nothing cites a statement of another mathbox",
-        "theorem",
-    )
+    rows: list[list[Value]] = []
+    for user, cited, box, other in across_mathboxes(graph, database.text):
+        if arguments.of in (None, other):
+            rows.append([user, box, cited, other])
+    whose = "another mathbox"
+    if arguments.of is not None:
+        mathboxes_of(database.text, database.name, arguments.of)
+        whose = f"the mathbox of {arguments.of} from outside it"
+    why = f"{database.name}: nothing cites a statement of {whose}"
+    context.table(["theorem", "mathbox", "cited", "of"], rows, why, "theorem")
     return 0
 
 
@@ -420,8 +461,7 @@ def put_ready(context: Context, graph: Graph, text: Text) -> None:
     rows: list[list[Value]] = []
     for node, users in citing.items():
         label = graph.labels[node]
-        cited = [text.by_label[graph.labels[each]] for each in graph.cites[node]]
-        last = max(cited, key=lambda one: one.number, default=None)
+        last = last_cited(graph, text, node)
         after = (None, None) if last is None else (last.label, text.chapter_number(last))
         rows.append([label, text.mathbox(text.by_label[label]), len(users), *after])
     context.table(

@@ -192,10 +192,17 @@ Wanted = Sequence[tuple[Sought, Sequence[str]]]
 
 
 class Searcher:
-    """Finds patterns in the formulas of some statements of a database, which has `every` one."""
+    """Finds patterns in the formulas of some statements of a database, which has `every` one; in
+    those of their `$e` too where it `takes_hypotheses`."""
 
-    def __init__(self, assertions: Sequence[Assertion], every: Sequence[Assertion]) -> None:
+    def __init__(
+        self,
+        assertions: Sequence[Assertion],
+        every: Sequence[Assertion],
+        takes_hypotheses: bool = True,
+    ) -> None:
         self.assertions = assertions
+        self.takes_hypotheses = takes_hypotheses
         self.reader = Reader(syntax_of(every))
         self.unread: dict[tuple[str, str], None] = {}
         """The formulas that have no tree, each with the label of its statement."""
@@ -209,14 +216,12 @@ class Searcher:
         statements that have a `$e` with each of those in `given`."""
         sought = [Sought(each, self.reader) for each in sharing([*patterns, *given])]
         own, conditions = sought[: len(patterns)], sought[len(patterns) :]
-        for number, one in enumerate(self.assertions):
-            if number % 1000 == 0:
-                progress.now(f"searching, {number} of {len(self.assertions)} are done")
+        for one in progress.counted(self.assertions, "searching"):
             if not all(may_have(f"{one.said} ", each.pattern.runs) for each in sought):
                 continue
             formulas = self.formulas_of(one)
             others = [formula for _, formula in formulas[1:]]
-            for label, formula in formulas:
+            for label, formula in formulas if self.takes_hypotheses else formulas[:1]:
                 if not all(may_have(f" {formula} ", each.pattern.runs) for each in own):
                     continue
                 wanted: Wanted = [

@@ -56,6 +56,8 @@ class Columns(World):
         for option in ("--theorems", "--apart"):
             heads = {self.head("rests", "db.mm", option, *each) for each in SEVERAL["rests"]}
             self.assertEqual(len(heads), 1, f"{option}: {heads}")
+        heads = {self.head("falls", "db.mm", "--count", *each) for each in SEVERAL["falls"]}
+        self.assertEqual(heads, {"theorems,labels"})
         words = ("history", "db.mm", "HEAD", "--of", "a2")
         heads = {self.head(*words, *each) for each in (("ax-1",), ("ax-1", "ax-mp"))}
         self.assertEqual(len(heads), 1)

@@ -28,6 +28,7 @@ LISTS: dict[str, list[str]] = {
     "discouraged": [],
     "definitions": [],
     "mathboxes": [],
+    "move": ["--ready", "five"],
     "needs": ["two"],
     "proofs": [],
     "search": ["( p ->"],
@@ -39,13 +40,14 @@ COLUMNS = {"rests": "axiom", "cites": "cited", "top": "axiom", "order": "label"}
 COLUMNS |= {"discouraged": "label", "definitions": "definition", "way-out": "of"}
 COLUMNS |= {"needs": "form", "search": "label"}
 """The column to which the filters apply, where it isn't `theorem`."""
-DATABASES = {"definitions": "definitions.mm", "unneeded": "unneeded.mm"}
+DATABASES = {"definitions": "definitions.mm", "unneeded": "unneeded.mm", "move": "move.mm"}
 """The file of which a command has something to list, where it isn't `db.mm`."""
 
 EARLY = {"wi", "ax-1", "one", "two", "ax-2"}
 TESTS: list[tuple[list[str], Test]] = [
     (["--like", "*o*,w*"], lambda label: "o" in label or label[:1] == "w"),
     (["--before", "three"], EARLY.__contains__),
+    (["--after", "ax-2"], lambda label: label not in EARLY),
 ]
 
 
@@ -96,6 +98,8 @@ class Filtered(World):
         super().setUp()
         self.write("db.mm", PARTS)
         self.write("definitions.mm", PARTS + "df-x $a |- p $.\ndf-o $a |- p $.\n")
+        ready = "nine $p |- ( p -> ( q -> p ) ) $= wp wq one $.\nno $p |- p $= wp four $.\n"
+        self.write("move.mm", PARTS + ready)
         unneeded = PARTS.replace("two $p", "${ two.1 $e |- q $. two $p").replace(
             "one $.", "one $. $}"
         )
@@ -104,6 +108,7 @@ class Filtered(World):
         )
         self.write("unneeded.mm", unneeded)
         self.write("few", "two six  # and no other\nfour\n")
+        self.write("others", "one none\n# six\nfive")
 
     def uncited(self, *filters: str) -> list[str]:
         """The theorems that the filters leave of all."""
@@ -117,6 +122,12 @@ class Filtered(World):
             (["--before", "four"], ["one", "two", "three"]),
             (["--before", "one"], []),
             (["--before", "ax-2"], ["one", "two"]),
+            (["--after", "four"], ["five", "todo", "six"]),
+            (["--after", "wi"], THEOREMS),
+            (["--after", "ax-2"], THEOREMS[2:]),
+            (["--after", "six"], []),
+            (["--after", "two", "--before", "five"], ["three", "four"]),
+            (["--after", "five", "--before", "five"], []),
             (["--main"], ["one", "two"]),
             (["--mathbox", "Bo"], ["four", "five", "todo", "six"]),
             (["--mathbox", "Ann Other"], ["three"]),
@@ -130,6 +141,10 @@ class Filtered(World):
             (["--not", "t*,f*"], ["one", "six"]),
             (["--not", "T*"], THEOREMS),
             (["--among", "few"], ["two", "four", "six"]),
+            (["--not-among", "few"], ["one", "three", "five", "todo"]),
+            (["--not-among", "few", "--not-among", "others"], ["three", "todo"]),
+            (["--not-among", "few", "--among", "few"], []),
+            (["--not-among", "/dev/null"], THEOREMS),
         ):
             self.assertEqual(self.uncited(*words), left, words)
 
@@ -137,10 +152,12 @@ class Filtered(World):
         """Every choice of three filters leaves what each of them leaves."""
         each: dict[tuple[str, ...], Test] = {
             ("--before", "five"): lambda label: THEOREMS.index(label) < THEOREMS.index("five"),
+            ("--after", "one"): lambda label: label != "one",
             ("--mathbox", "Bo"): lambda label: BOXES.get(label) == "Bo",
             ("--main",): lambda label: label not in BOXES,
             ("--not", "*e"): lambda label: not fnmatch.fnmatchcase(label, "*e"),
             ("--among", "few"): lambda label: label in ("two", "four", "six"),
+            ("--not-among", "others"): lambda label: label not in ("one", "five"),
         }
         for chosen in itertools.combinations(each.items(), 3):
             words = [word for words, _ in chosen for word in words]
@@ -186,11 +203,16 @@ class Filtered(World):
             (["--under", "7"], "has no header '7'"),
             (["--under", "Mathbox for"], "has no header 'Mathbox for'"),
             (["--among", "nothing"], "nothing: no such file"),
+            (["--after", "sixx"], "has no assertion 'sixx'; did you mean six?"),
+            (["--not-among", "nothing"], "nothing: no such file"),
+            (["--not-among", "."], ".: is a folder"),
         ):
             self.refuses("uncited", "--open", "db.mm", *words, why=why)
         self.write("report", self.report("db.mm", "--open", "--report=usage,citations"))
         self.refuses("uncited", "report", "--main", why="the database is wanted")
+        self.refuses("uncited", "report", "--after", "one", why="the database is wanted")
         self.assertEqual(self.answers("uncited", "report", "--like", "s*"), ["six"])
+        self.assertEqual(self.answers("uncited", "report", "--not-among", "few"), ["five"])
 
     def test_headers_of_one_title(self) -> None:
         """None of them is taken for the one that is meant. A number is."""

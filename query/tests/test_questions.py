@@ -97,6 +97,73 @@ class Questions(World):
                         resting = [label for label in (one, two) if each in users[label]]
                         self.assertEqual(on, " ".join(resting))
 
+    def test_how_many_fall(self) -> None:
+        """By counting the lists of `falls`, each label's own and that of all together."""
+        for database, path, chance in self.databases():
+            users = {label: set(database.users(label)) for label in database.labels()}
+            for count in (1, 2, 3):
+                *labels, other = chance.sample(database.labels(), count + 1)
+                for options, left in (
+                    ((), {*database.cites}),
+                    ((f"--without={other}",), database.cites.keys() - users[other]),
+                ):
+                    one_by_one = [[len(users[each] & left), each] for each in labels]
+                    for word, together in (
+                        ("--any-of", set.union(*map(users.__getitem__, labels))),
+                        ("--all-of", set.intersection(*map(users.__getitem__, labels))),
+                    ):
+                        last = [[len(together & left), " ".join(labels)]] if count > 1 else []
+                        rows = asked("falls", path, "--count", word, *options, "--", *labels)
+                        wanted = [*one_by_one, *last]
+                        self.assertEqual(rows, [[str(number), each] for number, each in wanted])
+        self.write("db.mm", SMALL)
+        self.assertEqual(self.answers("falls", "db.mm", "ax-1", "--count"), ["3"])
+        self.assertEqual(self.answers("falls", "db.mm", "a2", "a2", "--count"), ["0"])
+        for option, numbers in (
+            ("--like=a1*", [1, 1, 1]),
+            ("--not=a2", [2, 1, 1]),
+            ("--after=a2", [0, 0, 0]),
+            ("--before=a1i", [1, 0, 0]),
+        ):
+            words = ("falls", "db.mm", "ax-1", "ax-mp", "--count", "--all-of", option)
+            counts = [row["theorems"] for row in self.query(*words, "--format=json").rows()]
+            self.assertEqual(counts, numbers, option)
+        lines = self.answers("falls", "db.mm", "ax1", "ax-1", "--count")
+        self.assertEqual(lines[1:], ["       0  ax1", "       3  ax-1", "       3  ax1 ax-1"])
+        self.refuses("falls", "db.mm", "ax-9", "--count", why="an axiom 'ax-9'")
+
+    def test_a_symbol_in_place_of_a_label(self) -> None:
+        """It is told that a word is a symbol, and not that of a hypothesis' label."""
+        self.write("db.mm", SMALL + "$c R1 $. $v h1 $. fh $f wff h1 $. r1 $a |- ( h1 -> p ) $.\n")
+        says = "; it is a symbol, and `mmquery search` finds the statements that have it"
+        for words in (
+            ("falls", "db.mm", "{}"),
+            ("rests", "db.mm", "{}"),
+            ("cites", "db.mm", "{}"),
+            ("within", "db.mm", "{}"),
+            ("same", "db.mm", "{}"),
+            ("chapters", "db.mm", "{}"),
+            ("order", "db.mm", "--columns={}"),
+            ("move", "db.mm", "{}"),
+            ("move", "db.mm", "--ready={}"),
+            ("steps", "db.mm", "{}"),
+            ("uncited", "db.mm", "--before={}"),
+        ):
+            for word, is_symbol in (
+                *(("h1", True), ("->", True), ("wff", True), (")", True), ("p", True)),
+                *(("R1", False), ("fh", False), ("wp", False), ("min", False), ("$a", False)),
+                *(("p ", False), ("", False), ("\xe9", False), ("p q", False), ("nothing", False)),
+            ):
+                if not word and words[0] == "order":
+                    continue  # which wants an AXIOM then
+                told = [each.format(word) for each in words]
+                if word == "->" and "{}" in words:
+                    told = [told[0], "--", *told[1:]]
+                err = self.refuses(*told, why="has n")
+                self.assertEqual(says in err, is_symbol, (told, err))
+        self.write("report", self.report("db.mm", "--report=usage,citations"))
+        self.assertNotIn(says, self.refuses("falls", "report", "h1"))
+
     def test_cites_and_cited_by(self) -> None:
         for database, path, chance in self.databases():
             for label in database.labels():

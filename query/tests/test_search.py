@@ -188,6 +188,8 @@ class Searched(World):
                 options = [f"--given={' '.join(each)}" for each in conditions]
                 words = [*options, "--like=t*", "--", "db.mm", *map(" ".join, patterns)]
                 self.assertEqual(self.found(*words), wanted, words)
+                own = [pair for pair in wanted if pair[1] is None]
+                self.assertEqual(self.found("--no-hypotheses", *words), own, words)
                 tried += 0 < len(wanted) < len(said)
         self.assertGreater(tried, 12)
 
@@ -204,6 +206,13 @@ class Searched(World):
         self.assertEqual(self.found("small.mm", "wff q"), [("wi", None), ("wi2", None)])
         given = ("small.mm", "|- q", "--given=|- p", "--given=|- ( p -> q )")
         self.assertEqual(self.found(*given), [("ax-mp", None)])
+        self.assertEqual(self.found("small.mm", '"|- p"', "--no-hypotheses"), [])
+        done = self.query("search", "small.mm", '"|- p"', "--no-hypotheses")
+        self.assertEqual(done.err, "mmquery: small.mm: no formula of a statement itself has that\n")
+        lines = self.answers(
+            "search", "small.mm", "( q -> p )", "|- (", "--no-hypotheses", "--like=a1*"
+        )
+        self.assertEqual(lines, ["label  formula", "a1i    |- ( q -> p )"])
         self.refuses("search", "small.mm", "p", "--given=x", why="no statement has the symbol 'x'")
         self.refuses("search", "small.mm", "-> p", why="there is no option")
         self.assertIn(("a1i", None), self.found("--", "small.mm", "-> p"))

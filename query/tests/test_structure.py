@@ -224,6 +224,58 @@ class Structure(World):
             for label in database.axioms:
                 self.assertEqual(counts[label], str(len(database.users(label))))
 
+    def test_columns_of_axioms(self) -> None:
+        """Beside all that rests on each axiom, by trying everything."""
+        for seed in range(5):
+            chance = random.Random(seed)
+            names = ["-n", "--help", "1.0", "nan", "end"] if seed % 2 else None
+            database = invented(chance, 9, names)
+            self.write("chance.mm", database.text)
+            axioms = chance.sample(database.axioms, min(3, len(database.axioms)))
+            plain = self.query("order", "chance.mm", "--format=json").rows()
+            for options in (
+                [f"--columns={','.join(axioms)}"],
+                [f"--columns={each}" for each in (*axioms, axioms[0])],
+            ):
+                rows = self.query("order", "chance.mm", *options, "--format=json").rows()
+                self.assertEqual([*rows[0]][6:], axioms)
+                self.assertEqual([dict([*row.items()][:6]) for row in rows], plain)
+                for row in rows:
+                    label = str(row["label"])
+                    rests = database.rests(label)
+                    is_theorem = label in database.cites
+                    marks = [each in rests if is_theorem else None for each in axioms]
+                    self.assertEqual([row[each] for each in axioms], marks, label)
+
+    def test_columns_as_csv(self) -> None:
+        words = ("order", "--open", "db.mm", "--columns=ax-2,todo", "--format=csv", "--like=t*,a*")
+        self.assertEqual(
+            self.answers(*words),
+            [
+                "line,kind,typecode,count,label,header,ax-2,todo",
+                "8,axiom,|-,2,ax-1,0.1,,",
+                "15,theorem,|-,1,two,0.1.1,false,false",
+                "21,axiom,|-,3,ax-2,0.2,,",
+                "22,theorem,|-,1,three,0.2,true,false",
+                "33,open,|-,1,todo,0.3,,",
+            ],
+        )
+        for word, why in (
+            ("ax-22", "has no axiom of typecode '|-' 'ax-22'; did you mean ax-2?"),
+            ("one", "'one'; it is a theorem"),
+            ("wi", "'wi'; it is one of another typecode, and --all takes every axiom"),
+            ("ax-1,todoo", "'todoo'; did you mean todo?"),
+            ("\x1b[31m", "'\\x1b[31m'"),
+            ("", "--columns wants an AXIOM"),
+            (",", "--columns wants an AXIOM"),
+        ):
+            self.refuses("order", "--open", "db.mm", f"--columns={word}", why=why)
+        self.assertIn("wi", self.answers("order", "--open", "--all", "db.mm", "--columns=wi")[0])
+        for name in ("label", "line", "header"):
+            self.write("named.mm", PARTS.replace("ax-2", name))
+            why = f"named.mm: the axiom {name} has the name of another column"
+            self.refuses("order", "--open", "named.mm", f"--columns={name}", why=why)
+
     def test_unfinished(self) -> None:
         self.assertEqual(self.rows("unfinished", "db.mm"), [["1", "todo"]])
         self.assertEqual(self.rows("unfinished", "db.mm", "todo"), [["", "six"]])
@@ -258,6 +310,28 @@ class Structure(World):
         self.assertEqual(self.rows("mathboxes", "db.mm"), [["four", "Bo", "three", "Ann Other"]])
         self.write("small.mm", SMALL)
         self.assertEqual(self.answers("mathboxes", "small.mm"), [])
+
+    def test_citations_of_one_mathbox(self) -> None:
+        """Against all citations, of which those of the name are taken here."""
+        text = PARTS + "seven $p |- p $= wp three $. $(\n#*#*#*\nMathbox for Cy\n#*#*#*\n$)\n"
+        self.write("boxes.mm", text + "eight $p |- p $= wp four $. nine $p |- p $= wp three $.\n")
+        rows = self.rows("mathboxes", "boxes.mm")
+        self.assertEqual(len(rows), 4)
+        for name, count in (("Ann Other", 3), ("Bo", 1), ("Cy", 0)):
+            wanted = [row for row in rows if row[3] == name]
+            self.assertEqual(self.rows("mathboxes", "boxes.mm", "--of", name), wanted)
+            self.assertEqual(len(wanted), count)
+        both = self.rows("mathboxes", "boxes.mm", "--of", "Ann Other", "--mathbox", "Bo")
+        self.assertEqual([row[0] for row in both], ["four", "seven"])
+        done = self.query("mathboxes", "--open", "boxes.mm", "--of=Cy")
+        why = "boxes.mm: nothing cites a statement of the mathbox of Cy from outside it"
+        self.assertEqual((done.status, done.out, done.err), (0, "", f"mmquery: {why}\n"))
+        for words, why in (
+            (("--of", "bo"), "has no mathbox for 'bo'; did you mean Bo?"),
+            (("--of", ""), "has no mathbox for ''"),
+            (("--of", "Bo", "--ready"), "not allowed with argument"),
+        ):
+            self.refuses("mathboxes", "--open", "boxes.mm", *words, why=why)
 
     def test_what_is_ready(self) -> None:
         """A symbol that a mathbox declares keeps a theorem there, whatever its proof cites."""

@@ -38,6 +38,7 @@ HEADING = re.compile(
 HEADING_START = re.compile(rb"\$\(\s*+(?:####|#\*#\*|=-=-|-\.-\.)")
 OPENING = re.compile(rb"\s*\$\(")
 SPECIAL = re.compile(rb"\s*\$[jt]\s")
+CONSTANTS = re.compile(rb"\$c\s([^$]*+)\$\.")
 MATHBOX = re.compile(r"Mathbox for (.*)")
 ENDS = (b"$.", b"${", b"$}")
 """What stands before a comment that is in no statement, but for other comments."""
@@ -105,6 +106,12 @@ class Text:
             if length or start == before:
                 return start + length
             size *= 2
+
+    def constants_before(self, assertion: Assertion) -> set[str]:
+        """The constants that are declared before an assertion. No label and no symbol has a `$`, so
+        outside of comments each `$c` is the keyword."""
+        before = without_comments(self.data[: assertion.place])
+        return {word for match in CONSTANTS.finditer(before) for word in match[1].decode().split()}
 
     def proof(self, assertion: Assertion) -> list[str]:
         """The words of the proof; none for a `$a`."""
