@@ -6,7 +6,7 @@ _mmquery() {
     if [ "$word" = = ]; then word=; elif [ "$before" = = ]; then
         before=${COMP_WORDS[COMP_CWORD - 2]}; fi
     if [ "$COMP_CWORD" -eq 1 ]; then
-        words='verify rests falls cites cited-by uncited why way-out frees spare repeats unneeded top sets within same compare review history gate chapters steps proofs contributors order unfinished discouraged mathboxes definitions equivalents search needs drop move graph picture page set-proof export cache --help --version'
+        words='verify rests falls cites cited-by uncited why way-out frees spare repeats unneeded top sets within same compare review history gate chapters steps proofs contributors order unfinished discouraged mathboxes definitions equivalents search needs drop move graph picture page set-proof extract export cache --help --version'
     else
         case ${COMP_WORDS[1]}:$before in
             verify:--format | rests:--format | falls:--format | cites:--format | cited-by:--format | uncited:--format | why:--format | way-out:--format | frees:--format | spare:--format | repeats:--format | unneeded:--format | top:--format | sets:--format | within:--format | same:--format | compare:--format | history:--format | chapters:--format | steps:--format | proofs:--format | contributors:--format | order:--format | unfinished:--format | discouraged:--format | mathboxes:--format | equivalents:--format | search:--format | needs:--format | drop:--format | move:--format | export:--format | cache:--format) words='text tsv csv json' ;;
@@ -60,6 +60,7 @@ _mmquery() {
                     picture:-*) words='--png --svg --across --down --only --all --axioms --ignore-definitions --essential --open --no-cache --limit-time --limit-memory -h --help' ;;
                     page:-*) words='--only --title --against --watch --essential --open --no-cache --limit-time --limit-memory -h --help' ;;
                     set-proof:-*) words='--no-cache --limit-time --limit-memory -h --help' ;;
+                    extract:-*) words='--list --no-cache --limit-time --limit-memory -h --help' ;;
                     export:-*) words='--sqlite --only --all --axioms --ignore-definitions --essential --open --format --no-cache --limit-time --limit-memory -h --help' ;;
                     cache:-*) words='--format --no-cache --limit-time --limit-memory -h --help' ;;
                 esac

@@ -81,6 +81,7 @@ INDEX: dict[str, tuple[str, str]] = {
     "picture": ("graphs", "a picture of which theorem rests on which axiom"),
     "page": ("page", "one HTML file that shows the whole database"),
     "set-proof": ("set_proof", "the database with the proof of one theorem for that of another"),
+    "extract": ("extract", "a database of LABELs and what they need"),
     "export": ("export", "statements, citations and marks as tables of SQLite"),
     "cache": ("cache", "the results that are kept: show or clear"),
 }

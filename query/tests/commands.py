@@ -60,6 +60,7 @@ WORDS: dict[str, tuple[str, ...]] = {
     "picture": ("DB",),
     "page": ("DB",),
     "set-proof": ("DB", "a1i", "a2"),
+    "extract": ("DB", "a2"),
     "export": ("DB", "--sqlite", "out.sqlite"),
     "cache": (),
 }

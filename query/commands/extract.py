@@ -1,0 +1,47 @@
+"""`extract`: a part of a database that is a database."""
+
+import argparse
+
+from query.answers.errors import NoAnswer
+from query.arguments.context import Context
+from query.arguments.label_files import add_list, labels_of
+from query.arguments.options import Parser, add_database
+from query.commands import Command
+from query.exports.extraction import extract
+from query.reports.choice import Options
+
+PAGE = """
+Writes a database that has the LABELs and what they need, and nothing else: all that their proofs
+name, all the way down, with the blocks, hypotheses, $d and declarations of these. Of headings and
+comments only those stay that describe an assertion. The assertions are as they were, so each rests
+on what it rested on before.
+
+A syntax axiom is only there where a proof names it. So not every formula needs to have a tree, and
+`definitions` may have something to say of that. More syntax axioms can be named as LABELs.
+
+  $ mmquery extract set.mm id > id.mm
+  $ mmquery extract set.mm zorn ax-reg > part.mm
+"""
+
+
+def configure(parser: Parser) -> None:
+    """The words."""
+    add_database(parser)
+    parser.add_argument("labels", metavar="LABEL", nargs="*")
+    add_list(parser)
+
+
+def run(context: Context, arguments: argparse.Namespace) -> int:
+    """Answers."""
+    labels = labels_of(arguments)
+    if not labels:
+        raise NoAnswer("extract wants at least one LABEL, or a list that isn't empty")
+    database = context.database(arguments.database, Options(only=None, open=True))
+    database.see_text()
+    wanted = [database.assertion(label) for label in labels]
+    lines = extract(database.text, wanted)
+    context.out.write("".join(lines).encode("latin-1"))
+    return 0
+
+
+COMMANDS = [Command("extract", PAGE, configure, run, ())]
