@@ -70,20 +70,20 @@ ${
 $}
 """
 DEBIAN = ("demo0.mm", "peano.mm", "hol.mm", "ql.mm", "nf.mm", "iset.mm", "set.mm")
-SAMPLE = 5
+SAMPLE = 3
 """So many theorems of each database of Debian are taken out."""
 
 
 def said(text: Text) -> dict[str, list[list[str]]]:
-    """What the program tells of each assertion, by labels: hypotheses, dummy variables, formula and
-    pairs of variables. Pairs are in the order in which variables are declared, and a variable may
-    be declared several times, so their order may be another one in a part."""
+    """What the program tells of each assertion, by labels: hypotheses and formula, then dummy
+    variables and pairs. These are told in the order in which variables are declared, and where one
+    is declared several times, it may be another one in a part."""
     found = {}
     for one in text.assertions:
         parts = [part.split(" ") for part in one.said.split(" $")]
-        pairs = [sorted(part) for part in parts if part[0] == "d"]
-        found[one.label] = [[one.letter]] + [part for part in parts if part[0] != "d"]
-        found[one.label] += sorted(pairs)
+        unordered = sorted(sorted(part) for part in parts if part[0] in ("d", "v"))
+        ordered = [part for part in parts if part[0] not in ("d", "v")]
+        found[one.label] = [[one.letter], *ordered, *unordered]
     return found
 
 
