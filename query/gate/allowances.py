@@ -19,14 +19,14 @@ class Kept:
 
     def __init__(self) -> None:
         self.known: dict[str, Bits] = {}
-        self.size = 0
+        self.kept_bytes = 0
 
     def put(self, word: str, bits: Bits) -> Bits:
         """Keeps a set under a word."""
-        if self.size > MOST_KEPT:
+        if self.kept_bytes > MOST_KEPT:
             self.known.clear()
-            self.size = 0
-        self.size += bits.bit_length() // 8
+            self.kept_bytes = 0
+        self.kept_bytes += bits.bit_length() // 8
         self.known[word] = bits
         return bits
 
@@ -53,9 +53,9 @@ class Resting:
 
     def allowed(self, theorem: str) -> Bits:
         """The axioms on which a theorem may rest."""
-        return self._said(theorem) | self._begun(self.beginnings.longest(theorem))
+        return self._by_word(theorem) | self._by_beginning(self.beginnings.longest(theorem))
 
-    def _said(self, word: str) -> Bits:
+    def _by_word(self, word: str) -> Bits:
         """The axioms on which what a word means may rest by this word alone."""
         found = 0
         for axiom in self.words.get(word, ()):
@@ -65,8 +65,9 @@ class Resting:
             found |= known
         return found
 
-    def _begun(self, place: int) -> Bits:
-        """The same by a beginning, which has a place, and by all with which that begins."""
+    def _by_beginning(self, place: int) -> Bits:
+        """The axioms on which may rest what has a beginning, which is given by its place among the
+        beginnings: by this one, and by each with which it begins itself."""
         words, known = self.beginnings.words, self.of_beginnings.known
         passed = []
         while place != NONE and words[place] not in known:
@@ -74,5 +75,5 @@ class Resting:
             place = self.beginnings.shorter[place]
         found = 0 if place == NONE else known[words[place]]
         for word in reversed(passed):
-            found = self.of_beginnings.put(word, found | self._said(f"{word}*"))
+            found = self.of_beginnings.put(word, found | self._by_word(f"{word}*"))
         return found

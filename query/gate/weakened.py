@@ -28,16 +28,13 @@ def losses(old: Config, new: Config) -> Iterator[Finding]:
         yield Finding("config", new.name, line(new, CHOSEN), "", "", reason)
     for rule in RULES:
         if rule in old.rules and rule not in new.rules:
-            place = line(new, "rules", rule) or line(new, "rules", "newly")
-            place = line(new, CHOSEN) if rule == CHOSEN else place
             is_unsaid = rule == "new" and new.is_new_as_newly
             why = ", as `rules.newly` says, since the file has no `rules.new`" if is_unsaid else ""
             reason = f"the rule `{rule}` is switched off{why}"
-            yield Finding("config", new.name, place, "", "", reason)
+            yield Finding("config", new.name, line_of_rule(new, rule), "", "", reason)
         elif rule in old.rules and rule in new.of_main and rule not in old.of_main:
-            place = line(new, "rules", rule) or line(new, "rules", "newly")
             reason = f"the rule `{rule}` leaves theorems of mathboxes, where all were judged"
-            yield Finding("config", new.name, place, "", "", reason)
+            yield Finding("config", new.name, line_of_rule(new, rule), "", "", reason)
     watched = Labels(new.watch)
     for word in old.watch:
         if word not in watched.whole:
@@ -89,8 +86,16 @@ def mended(config: Config, brought: Config, side: Side) -> Config:
 
 
 def line(config: Config, *path: str) -> int:
-    """Where a file has a key."""
+    """The line on which a file has a key; 0 where it hasn't."""
     return config.lines.get(path, 0)
+
+
+def line_of_rule(config: Config, rule: str) -> int:
+    """The line that switches a rule; what a file says of `newly` holds for `new` too, if it doesn't
+    name that."""
+    if rule == CHOSEN:
+        return line(config, CHOSEN)
+    return line(config, "rules", rule) or line(config, "rules", "newly")
 
 
 def lost_claims(old: Config, new: Config) -> Iterator[Finding]:
@@ -120,9 +125,9 @@ def allowances(old: Config, new: Config) -> Iterator[Finding]:
             (Labels((axiom,)), theorems) for axiom, theorems in old.resting.get(rule, {}).items()
         ]
         for axiom, labels in lists.items():
-            place = line(new, "allow", rule, axiom) or line(new, "allow", "newly", axiom)
-            covers = [theorems for axioms, theorems in known if axioms.covers(axiom)]
+            where = line(new, "allow", rule, axiom) or line(new, "allow", "newly", axiom)
+            before = [theorems for axioms, theorems in known if axioms.covers(axiom)]
             for word in labels.words:
-                if not any(theorems.covers(word) for theorems in covers):
+                if not any(theorems.covers(word) for theorems in before):
                     reason = f"`allow.{rule}` lets '{word}' rest on '{axiom}' now"
-                    yield Finding("config", new.name, place, word, axiom, reason)
+                    yield Finding("config", new.name, where, word, axiom, reason)
