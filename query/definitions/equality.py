@@ -27,7 +27,7 @@ Property = tuple[str, ...]
 
 
 @dataclass(frozen=True)
-class Fact:
+class ParsedTheorem:
     """A theorem or an axiom, its formulas as trees: a tree is a variable, or a tuple of a form and
     its parts."""
 
@@ -77,7 +77,7 @@ def is_of(term: object, form: str) -> TypeGuard[tuple[Any, ...]]:
     return isinstance(term, tuple) and term[0] == form
 
 
-class Facts:
+class ParsedTheorems:
     """The theorems of a database that can say something of its equalities."""
 
     def __init__(
@@ -93,10 +93,10 @@ class Facts:
         self.others = all_constants - wanted
         self.typecode = typecode
         counted = progress.counted(assertions, "reading what says something of equalities")
-        self.all = [fact for one in counted if (fact := self.fact(one)) is not None]
+        self.all = [theorem for one in counted if (theorem := self.parsed(one)) is not None]
 
-    def fact(self, one: Assertion) -> Fact | None:
-        """What an assertion says; None where it can't be of use."""
+    def parsed(self, one: Assertion) -> ParsedTheorem | None:
+        """An assertion with its formulas as trees; None where it can't be of use."""
         formula = one.formula.split(" ")
         if one.is_open or not self.is_wanted(formula):
             return None
@@ -111,7 +111,9 @@ class Facts:
             terms = [self.term(each[1:], kinds) for each in (*given, formula)]
         except NotRead:
             return None
-        return Fact(one.label, tuple(terms[:-1]), terms[-1], kinds, frozenset(frame.pairs()))
+        return ParsedTheorem(
+            one.label, tuple(terms[:-1]), terms[-1], kinds, frozenset(frame.pairs())
+        )
 
     def is_wanted(self, formula: Sequence[str]) -> bool:
         """Whether a formula has only constants that can be of use, and not too many symbols."""
@@ -133,28 +135,31 @@ class Known:
     equal, with 0 and 1 in their place."""
 
     def __init__(
-        self, facts: Sequence[Fact], forms: Mapping[str, Form], equalities: Mapping[str, str]
+        self,
+        theorems: Sequence[ParsedTheorem],
+        forms: Mapping[str, Form],
+        equalities: Mapping[str, str],
     ) -> None:
         self.forms = forms
         self.equalities = equalities
         self.found: dict[Property, list[str]] = {}
         self.turned: object = None
-        self.implication = next(self.implications(facts), "")
-        for fact in facts:
-            for each in self.properties(fact):
+        self.implication = next(self.implications(theorems), "")
+        for theorem in theorems:
+            for each in self.properties(theorem):
                 labels = self.found.setdefault(each, [])
                 if len(labels) < MOST_FOUND:
-                    labels.append(fact.label)
-        self.renaming(facts)
+                    labels.append(theorem.label)
+        self.renaming(theorems)
 
-    def implications(self, facts: Sequence[Fact]) -> Iterator[str]:
+    def implications(self, theorems: Sequence[ParsedTheorem]) -> Iterator[str]:
         """The forms for which there is a rule of detachment, and that aren't equalities."""
-        for fact in facts:
-            one = fact.said
-            for given in fact.given:
-                if is_rule(fact, 2) and isinstance(given, tuple) and len(given) == 3:
+        for theorem in theorems:
+            one = theorem.said
+            for given in theorem.given:
+                if is_rule(theorem, 2) and isinstance(given, tuple) and len(given) == 3:
                     other = given[1]
-                    is_there = isinstance(other, str) and other != one and other in fact.given
+                    is_there = isinstance(other, str) and other != one and other in theorem.given
                     if is_there and given[2] == one and given[0] not in self.equalities.values():
                         yield given[0]
 
@@ -166,26 +171,26 @@ class Known:
                     return typecode, term[1], term[2]
         return None
 
-    def properties(self, fact: Fact) -> Iterator[Property]:
+    def properties(self, theorem: ParsedTheorem) -> Iterator[Property]:
         """What a theorem says, but for bound variables."""
-        said, given, imp = fact.said, fact.given, self.implication
-        if is_rule(fact, 2) and isinstance(said, str):
+        said, given, imp = theorem.said, theorem.given, self.implication
+        if is_rule(theorem, 2) and isinstance(said, str):
             for one, other in (given, given[::-1]):
                 if one != said and isinstance(one, str):
                     if other == (imp, one, said):
                         yield ("detaches",)
                     if other == (self.equalities.get(WFF), one, said):
                         yield ("replaces",)
-        if imp and is_of(said, imp) and not fact.pairs:
-            yield from self.of_implication(fact)
+        if imp and is_of(said, imp) and not theorem.pairs:
+            yield from self.of_implication(theorem)
         equation = self.equality(said)
-        if equation is not None and not fact.pairs:
-            yield from self.of_equation(fact, *equation)
-        yield from self.of_form(fact)
+        if equation is not None and not theorem.pairs:
+            yield from self.of_equation(theorem, *equation)
+        yield from self.of_form(theorem)
 
-    def of_implication(self, fact: Fact) -> Iterator[Property]:
+    def of_implication(self, theorem: ParsedTheorem) -> Iterator[Property]:
         """What a theorem says of the implication."""
-        said, given, imp = fact.said, fact.given, self.implication
+        said, given, imp = theorem.said, theorem.given, self.implication
         assert isinstance(said, tuple)
         _, one, other = said
         if not given and one == other and isinstance(one, str):
@@ -207,10 +212,10 @@ class Known:
                             yield "chained", self.equalities[typecode]
 
     def of_equation(
-        self, fact: Fact, typecode: str, left: object, right: object
+        self, theorem: ParsedTheorem, typecode: str, left: object, right: object
     ) -> Iterator[Property]:
         """What a theorem says of an equality alone."""
-        form, given = self.equalities[typecode], fact.given
+        form, given = self.equalities[typecode], theorem.given
         if not given and left == right and isinstance(left, str):
             yield "reflexive", form
         if given == ((form, right, left),) and are_variables(left, right):
@@ -222,9 +227,9 @@ class Known:
                         if are_variables(left, right, one[2]):
                             yield "transitive", form
 
-    def of_form(self, fact: Fact) -> Iterator[Property]:
+    def of_form(self, theorem: ParsedTheorem) -> Iterator[Property]:
         """That an equality goes through a form, at each part for which a theorem says it."""
-        condition, given, equation = self.under(fact)
+        condition, given, equation = self.under(theorem)
         sides = None if equation is None or not given else self.sides_of(equation)
         if sides is None:
             return
@@ -239,18 +244,18 @@ class Known:
         }
         if not are_variables(*names) or {*given} != wanted:
             return
-        if self.are_allowed(fact, form, pairs, condition):
+        if self.are_allowed(theorem, form, pairs, condition):
             for place in changed:
                 yield "respects", form, str(place)
-                if self.equality(fact.said) is None:
+                if self.equality(theorem.said) is None:
                     yield "respects under", form, str(place)
 
     def under(
-        self, fact: Fact
+        self, theorem: ParsedTheorem
     ) -> tuple[object, tuple[object, ...], tuple[str, object, object] | None]:
         """A theorem that says an equation as a rule, or under a condition, or as an implication:
         the variable of the condition, what is given, and the equation."""
-        said, given, imp = fact.said, fact.given, self.implication
+        said, given, imp = theorem.said, theorem.given, self.implication
         equation = self.equality(said)
         if equation is not None or not imp or not is_of(said, imp):
             return None, given, equation
@@ -264,12 +269,16 @@ class Known:
         return condition, freed if len(freed) == len(given) else (), equation
 
     def are_allowed(
-        self, fact: Fact, form: str, pairs: Mapping[int, tuple[object, object]], condition: object
+        self,
+        theorem: ParsedTheorem,
+        form: str,
+        pairs: Mapping[int, tuple[object, object]],
+        condition: object,
     ) -> bool:
         """Whether a theorem has no `$d` but those of what holds before and a bound variable."""
         kinds = self.forms[form].arguments
         bound = {pairs[place][0] for place, kind in enumerate(kinds) if kind == SETVAR}
-        return all(condition in each and bound & {*each} for each in fact.pairs)
+        return all(condition in each and bound & {*each} for each in theorem.pairs)
 
     def sides_of(
         self, equation: tuple[str, object, object]
@@ -282,13 +291,13 @@ class Known:
             return None
         return left[0], dict(enumerate(zip(left[1:], right[1:])))
 
-    def renaming(self, facts: Sequence[Fact]) -> None:
+    def renaming(self, theorems: Sequence[ParsedTheorem]) -> None:
         """Finds which forms let their bound variable have another name, and in which a variable may
         be replaced by an equal one."""
         names: dict[object, dict[Property, list[str]]] = {}
-        for fact in facts:
-            for turned, each in self.renames(fact):
-                names.setdefault(turned, {}).setdefault(each, []).append(fact.label)
+        for theorem in theorems:
+            for turned, each in self.renames(theorem):
+                names.setdefault(turned, {}).setdefault(each, []).append(theorem.label)
         if not names:
             return
         self.turned = max(names, key=lambda turned: len(names[turned]))
@@ -300,18 +309,18 @@ class Known:
                     if self.turned == (equality, (form, "0"), (form, "1")):
                         found = self.found.get(("identity",), [])
                         self.found["substitutes", form, str(place)] = found
-        for fact in facts:
-            for each in self.substitutes(fact):
-                self.found.setdefault(each, []).append(fact.label)
+        for theorem in theorems:
+            for each in self.substitutes(theorem):
+                self.found.setdefault(each, []).append(theorem.label)
 
-    def renames(self, fact: Fact) -> Iterator[tuple[object, Property]]:
+    def renames(self, theorem: ParsedTheorem) -> Iterator[tuple[object, Property]]:
         """That a form lets its bound variable have another name: from `( x = y -> ( ph <-> ps ) )`
         follows `( A. x ph <-> A. y ps )`."""
-        equation, imp = self.equality(fact.said), self.implication
-        if equation is None or len(fact.given) != 1 or not is_of(fact.given[0], imp):
+        equation, imp = self.equality(theorem.said), self.implication
+        if equation is None or len(theorem.given) != 1 or not is_of(theorem.given[0], imp):
             return
         sides = self.sides_of(equation)
-        given = fact.given[0]
+        given = theorem.given[0]
         assert isinstance(given, tuple)
         inner = self.equality(given[2])
         if sides is None or inner is None or not imp:
@@ -325,17 +334,17 @@ class Known:
         if inner[1:] != (left, right) or not are_variables(one, other, left, right):
             return
         allowed = {frozenset(each) for each in ((one, other), (one, right), (other, left))}
-        if all(frozenset(each) in allowed for each in fact.pairs):
+        if all(frozenset(each) in allowed for each in theorem.pairs):
             turned = with_numbers(given[1], one, other)
             if turned is not None:
                 yield turned, ("renames", form)
 
-    def substitutes(self, fact: Fact) -> Iterator[Property]:
+    def substitutes(self, theorem: ParsedTheorem) -> Iterator[Property]:
         """That a variable of a form may be replaced by an equal one: `( x = y -> ( x = z <-> y = z
         ) )`."""
-        if fact.given or fact.pairs or not is_of(fact.said, self.implication):
+        if theorem.given or theorem.pairs or not is_of(theorem.said, self.implication):
             return
-        said = fact.said
+        said = theorem.said
         assert isinstance(said, tuple)
         equation = self.equality(said[2])
         sides = None if equation is None else self.sides_of(equation)
@@ -351,9 +360,9 @@ class Known:
                     yield "substitutes", form, str(place)
 
 
-def is_rule(fact: Fact, count: int) -> bool:
+def is_rule(theorem: ParsedTheorem, count: int) -> bool:
     """Whether a theorem has so many `$e` and no `$d`."""
-    return len(fact.given) == count and not fact.pairs
+    return len(theorem.given) == count and not theorem.pairs
 
 
 def are_variables(*terms: object) -> bool:

@@ -14,7 +14,7 @@ from collections.abc import Collection, Container, Iterable, Iterator, Mapping, 
 from dataclasses import dataclass, field, replace
 
 from query.citations.graph import Graph
-from query.definitions.equality import Facts, Form, Known
+from query.definitions.equality import Form, Known, ParsedTheorems
 from query.definitions.foundations import BEGINNING, Ground, Grounds, Rests, in_words
 from query.formulas.ambiguity import Ambiguity, ambiguity
 from query.formulas.grammar import Grammar, NotRead, Part, Tree, Twofold
@@ -485,8 +485,8 @@ class Definitions:
             label: Form(self.grammar.typecodes[label], tuple(self.grammar.arguments[label]))
             for label in self.primitives()
         }
-        facts = Facts(self.grammar, assertions, forms).all if self.definitions else []
-        return Known(facts, forms, self.equalities)
+        parsed = ParsedTheorems(self.grammar, assertions, forms).all if self.definitions else []
+        return Known(parsed, forms, self.equalities)
 
     def weigh(self, assertions: Sequence[Assertion]) -> None:
         """Finds which definitions rest on nothing but what is sound without them."""

@@ -20,6 +20,8 @@ from query.texts.text import Text
 
 APPLICATION = 0x6D6D7175
 """What the header has as the application, `mmqu`; by it a file that was exported is known."""
+APPLICATION_PLACE = slice(68, 72)
+"""Where the header of a file of SQLite has it, as the form of such files says."""
 SCHEMA = 1
 """The number of the schema, in the header as the user's version and in `about`: another one where a
 table or a view loses a column, or a column means something else."""
@@ -198,10 +200,11 @@ def is_exported(path: str) -> bool:
     """Whether a file is one that was exported before."""
     try:
         with open(path, "rb") as file:
-            head = file.read(100)
+            head = file.read(APPLICATION_PLACE.stop)
     except OSError:
         return False
-    return head.startswith(b"SQLite format 3\0") and head[68:72] == APPLICATION.to_bytes(4, "big")
+    is_sqlite = head.startswith(b"SQLite format 3\0")
+    return is_sqlite and head[APPLICATION_PLACE] == APPLICATION.to_bytes(4, "big")
 
 
 def export(content: Content, path: str) -> list[tuple[str, int]]:
