@@ -3,7 +3,10 @@
 /** How many times as long as a compressed file its text may be, besides some bytes that are free. */
 export const MOST_TIMES = 100;
 const FREE_TEXT = 1 << 24;
-/** How many bytes of memory a text may take for each byte of it, besides some that are free. */
+/**
+ * How many bytes of memory a text may take for each byte of it, besides some that are free; and below how many seconds, in
+ * the same way. set.mm takes 0.12 of its 2.9 GB, and 2 of its 216 seconds.
+ */
 const MEMORY_TIMES = 64;
 const FREE_MEMORY = 256_000_000;
 export const MEGABYTE = 1_000_000;

@@ -24,6 +24,7 @@ grammar takes some 6,000."""
 MOST_DEPTH = 100
 """So many axioms within one another are followed at the most."""
 SHOWN_SYMBOLS = 30
+"""A formula is told in a message up to so many symbols."""
 MOST_PARTS = 10_000
 """Of so many states at the most the symbols are put together."""
 
@@ -107,7 +108,9 @@ class Comparison:
         self.ends: dict[Parts, list[State]] = {}
         """For two parts the states in which one of them is at its end, or both."""
         self.prefix = ""
+        """The first formula that was found to be the beginning of a longer one; "" if none was."""
         self.double = ""
+        """How the first formula begins that was found to have two trees; "" if none was."""
 
     def take(self, steps: int = 1) -> None:
         """Counts steps."""

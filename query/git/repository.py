@@ -21,7 +21,7 @@ from pathlib import Path
 from query.answers.errors import NoAnswer, shown
 from query.platform import signals, system
 from query.platform.executables import wanted
-from query.platform.limits import BYTES_FOR_BYTE, MEGABYTE
+from query.platform.limits import MEGABYTE, MEMORY_TIMES
 
 NO_COMMIT = "0" * 40
 """What GitHub gives as the commit before a push that makes a branch."""
@@ -225,7 +225,7 @@ def call(
 
 def memory_for(size: int) -> int:
     """How much memory a call gets that reads a database of so many bytes."""
-    return FREE_BYTES + BYTES_FOR_BYTE * size
+    return FREE_BYTES + MEMORY_TIMES * size
 
 
 def begin(

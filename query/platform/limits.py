@@ -9,7 +9,9 @@ MEGABYTE = 1_000_000
 MOST_DATABASE_BYTES = 2_147_483_647
 """The program refuses longer texts, so no more than some bytes more are read."""
 FREE_SECONDS, SECONDS_FOR_MEGABYTE = 10, 5
-FREE_BYTES, BYTES_FOR_BYTE = 256 * MEGABYTE, 64
+FREE_MEMORY, MEMORY_TIMES = 256 * MEGABYTE, 64
+"""What each text gets, and what its length adds: many times what a database takes as it is written.
+set.mm takes 2 of its 216 seconds, and 0.12 of its 2.9 GB. `web/limits.js` has the same."""
 MOST_GIVEN = 999_999
 """The largest number that an option or a file may give."""
 SHARE = 4
@@ -43,7 +45,7 @@ class Limits:
         """Bytes of memory for a text of so many bytes."""
         if self.megabytes is not None:
             return self.megabytes * MEGABYTE
-        return FREE_BYTES + BYTES_FOR_BYTE * size
+        return FREE_MEMORY + MEMORY_TIMES * size
 
     def share(self, size: int) -> Limits:
         """What a text of so many bytes may take by itself: a part of what two such texts get."""

@@ -16,6 +16,7 @@ from query.platform.system import PIPE
 
 DONE, WITHOUT_ANSWER = b"+", b"-"
 LARGE = 1 << 20
+"""Work on fewer bytes takes less time than to copy this process."""
 MOST_AT_ONCE = 4
 """So many processes work where no number is asked for, if there are processors and memory."""
 GROWTH = 2

@@ -12,8 +12,9 @@ from typing import Any
 from query.answers.errors import NoAnswer
 
 MOST_TIMES = 100
-"""How many times as long as the file its text may be, besides `FREE_BYTES`. set.mm is 4 times."""
-FREE_BYTES = 1 << 24
+"""How many times as long as the file its text may be, besides `FREE_TEXT`. set.mm is 4 times."""
+FREE_TEXT = 1 << 24
+"""Bytes that the text of any file may have: few bytes may be made of many more, and cost little."""
 MOST_MEMORY = 1 << 27
 """Bytes that xz may take, twice as many as its largest setting needs."""
 AT_ONCE = 1 << 22
@@ -35,7 +36,7 @@ def unpacked(name: str, data: bytes, most: int) -> bytes:
     packer = packer_of(data)
     if packer is None:
         return data
-    allowed = min(most, MOST_TIMES * len(data) + FREE_BYTES)
+    allowed = min(most, MOST_TIMES * len(data) + FREE_TEXT)
     text = bytearray()
     place = 0
     while place < len(data) and len(text) <= allowed:

@@ -10,6 +10,7 @@ from dataclasses import dataclass
 from query.proofs.letters import letters_of
 
 WIDTH = 79
+"""That of metamath.exe, where no proof of the database shows another one."""
 INDENT = b"      "
 SAMPLE = 4000
 """Of so many proofs the lines are measured."""

@@ -16,11 +16,12 @@ from collections.abc import Callable, Mapping, Sequence
 Key = tuple[int, ...]
 """The head of a tree and its parts."""
 Code = tuple[tuple[int, int], ...]
-"""A pattern, part before whole: a head and the number of its parts; a slot as `~slot` and -1."""
+"""A pattern, part before whole: a head and the number of its parts; or `~slot` and `SLOT`."""
 Binding = dict[int, int]
 """For variables of a pattern the trees that stand for them."""
 
 SLOT = -1
+"""Stands in a pattern in place of the number of parts."""
 
 
 class Trees:

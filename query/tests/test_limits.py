@@ -43,9 +43,9 @@ class Lengths(unittest.TestCase):
         numbers = {name: value_of(number) for name, number in found.items()}
         wanted = {
             "MOST_TIMES": unpacking.MOST_TIMES,
-            "FREE_TEXT": unpacking.FREE_BYTES,
-            "MEMORY_TIMES": limits.BYTES_FOR_BYTE,
-            "FREE_MEMORY": limits.FREE_BYTES,
+            "FREE_TEXT": unpacking.FREE_TEXT,
+            "MEMORY_TIMES": limits.MEMORY_TIMES,
+            "FREE_MEMORY": limits.FREE_MEMORY,
             "MEGABYTE": limits.MEGABYTE,
             "SECONDS_FOR_MEGABYTE": limits.SECONDS_FOR_MEGABYTE,
             "FREE_SECONDS": limits.FREE_SECONDS,
