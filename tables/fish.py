@@ -6,8 +6,8 @@ from tables.parts import MADE, in_shell
 from tables.words import Words, sentence
 
 
-def named(option: Option) -> str:
-    """An option by its names."""
+def names_in_fish(option: Option) -> str:
+    """An option's names as `complete` takes them: `-l` for a long one, `-s` for a letter."""
     return " ".join(
         f"-l {word[2:]}" if word.startswith("--") else f"-s {word[1:]}" for word in option.words
     )
@@ -16,7 +16,7 @@ def named(option: Option) -> str:
 def of_mmdepend(options: dict[Option, Words]) -> list[str]:
     """The options of `mmdepend`."""
     return [
-        f"complete -c mmdepend {named(option)}{value_of(option, words)} -d "
+        f"complete -c mmdepend {names_in_fish(option)}{value_of(option, words)} -d "
         + in_shell(sentence(words.short))
         for option, words in options.items()
     ]
@@ -48,7 +48,7 @@ def of_mmquery() -> list[str]:
         for option in options_of(name):
             value = f" -x -a '{' '.join(option.choices)}'" if option.choices else " -r"
             value = value if option.value else ""
-            lines.append(f"{start} {named(option)}{value} -d {in_shell(option.about)}")
+            lines.append(f"{start} {names_in_fish(option)}{value} -d {in_shell(option.about)}")
         if first_words(name):
             lines.append(f"{start} -a '{' '.join(first_words(name))}'")
     return lines

@@ -43,7 +43,8 @@ def whole(graph: Graph) -> Part:
 
 
 def through(graph: Graph, nodes: set[int], start: int, middle: int) -> Part:
-    """The chains from a theorem that lead through a node, of those between these nodes."""
+    """The chains from a theorem that lead through a node, of those between these nodes; the theorem
+    alone where there are none."""
     if middle not in nodes:
         return part_of(graph, {start})
     upper, lower = graph.above([middle]) & nodes, graph.below([middle]) & nodes

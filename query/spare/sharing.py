@@ -136,7 +136,7 @@ def to_json(search: Searching, numbers: Sequence[int]) -> bytes:
 
 
 def from_json(data: bytes) -> dict[int, Found]:
-    """The same as it was found."""
+    """What `to_json` wrote, as it was before."""
     return {
         int(number): Found(int(rests, 16), None if fields is None else from_fields(fields))
         for number, (rests, fields) in json.loads(data).items()

@@ -26,7 +26,8 @@ const WordRank = { wholeLabel: 40, beginsLabel: 24, inLabel: 16, inFormula: 6, i
 const FormulaRank = { sideBySide: 8, isTyped: 9, isTypedMore: 18 };
 /** A phrase in quotes, or a word. Quotes that stand alone are symbols. */
 const QUERY_WORD = /(?<!\S)"(\S|\S[^"]*\S)"(?!\S)|\S+/g;
-const MOST_KNOWN = 24;
+/** Of so many words it is known where they are: as one is typed, each of its beginnings is one. */
+const MOST_KNOWN_WORDS = 24;
 /** Of assertions of the same rank the shorter comes first, up to this length; then in file order. */
 const LONGEST_COMPARED = 4095;
 
@@ -216,7 +217,7 @@ export class Search {
      * @param {Uint8Array} masks
      */
     keep(word, masks) {
-        if (this.known.size >= MOST_KNOWN) this.known.delete([...this.known.keys()][0]);
+        if (this.known.size >= MOST_KNOWN_WORDS) this.known.delete([...this.known.keys()][0]);
         this.known.set(word, masks);
         return masks;
     }
