@@ -40,6 +40,10 @@ class Parser(argparse.ArgumentParser):
         """Adds an option with a value."""
         self.add_argument(name, metavar=metavar, help=about, **more)
 
+    def number(self, name: str, metavar: str, about: str, default: int) -> None:
+        """Adds an option with a number. Its help says which holds where none is given."""
+        self.value(name, metavar, f"{about} (else: {default})", type=positive, default=default)
+
     def values(self, name: str, metavar: str, about: str, **more: Any) -> None:
         """Adds an option that may be given several times, each time with a value."""
         self.value(name, metavar, about, action="append", default=[], **more)

@@ -338,9 +338,7 @@ def configure_frees(parser: Parser) -> None:
     parser.add_argument("on", metavar="ON")
     parser.add_argument("theorems", metavar="THEOREM", nargs="*")
     parser.exclude("--most", "--plan")
-    parser.value(
-        "--most", "N", "without THEOREM: how many are listed (else: 10)", type=positive, default=10
-    )
+    parser.number("--most", "N", "without THEOREM: how many are listed", 10)
     parser.value("--plan", "N", "the best N one after the other", type=positive)
     parser.values(
         "--given",

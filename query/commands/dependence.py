@@ -124,19 +124,19 @@ def put_union(
     rows: Mapping[int, Sequence[int]],
     labels: Sequence[str],
     empty: str,
-    is_said: bool = False,
+    are_all: bool = False,
 ) -> None:
-    """Answers with numbers of what is known, each with the LABELs to which it belongs; it `is_said`
-    already whether these are all of them."""
+    """Answers with numbers of what is known, each with the LABELs to which it belongs; `are_all`
+    says that these are all of them on each line."""
     table: list[list[Value]] = []
     for number, of in rows.items():
         table.append([known[number], [labels[number] for number in of]])
-    context.table([column, "labels"], table, empty, column, aside_of(labels, is_said))
+    context.table([column, "labels"], table, empty, column, aside_of(labels, are_all))
 
 
-def aside_of(labels: Sequence[str], is_said: bool = False) -> list[str]:
+def aside_of(labels: Sequence[str], are_all: bool = False) -> list[str]:
     """What the form `text` leaves out: the LABELs where they are the same on each line."""
-    return ["labels"] if is_said or len(labels) == 1 else []
+    return ["labels"] if are_all or len(labels) == 1 else []
 
 
 def chosen_of(database: Database) -> str:

@@ -22,6 +22,7 @@ from query.commands import Command
 from query.reports.database import Database
 
 MOST_LANDMARKS = 1000
+"""Each takes a bit at each node of the graph, and a person doesn't look at as many."""
 FIGURE = (
     "  graph [rankdir=TB, ranksep=0.5, nodesep=0.25, splines=true, concentrate=true];",
     '  node [shape=plain, fontname="Helvetica", fontsize=11];',
@@ -87,7 +88,7 @@ def run_graph(context: Context, arguments: argparse.Namespace) -> int:
     graph = database.graph()
     part = chosen_part(graph, arguments)
     if part.is_empty():
-        context.tell(nothing(graph, arguments))
+        context.tell(why_empty(graph, arguments))
     elif arguments.depth is not None and arguments.on is not None:
         tell_too_deep(context, graph, arguments)
     is_of_one = arguments.theorem is not None
@@ -128,7 +129,7 @@ def chosen_part(graph: Graph, arguments: argparse.Namespace) -> Part:
     return part
 
 
-def nothing(graph: Graph, arguments: argparse.Namespace) -> str:
+def why_empty(graph: Graph, arguments: argparse.Namespace) -> str:
     """Says why a part has no arrow."""
     if arguments.theorem is None:
         return f"{graph.name}: no theorem cites anything"
@@ -236,8 +237,8 @@ def configure_picture(parser: Parser) -> None:
     parser.flag("--png", "a PNG file with axes and a legend")
     parser.flag("--svg", "an SVG file with axes and a legend")
     parser.exclude("--png", "--svg")
-    parser.value("--across", "N", "at most N dots across (else: 500)", type=positive, default=500)
-    parser.value("--down", "N", "at most N dots down (else: 700)", type=positive, default=700)
+    parser.number("--across", "N", "at most N dots across", 500)
+    parser.number("--down", "N", "at most N dots down", 700)
     add_choice_of_axioms(parser)
 
 

@@ -4,13 +4,7 @@ import argparse
 
 from query.answers.output import Value
 from query.arguments.context import Context
-from query.arguments.options import (
-    Parser,
-    add_choice_of_citations,
-    add_database,
-    options_of,
-    positive,
-)
+from query.arguments.options import Parser, add_choice_of_citations, add_database, options_of
 from query.commands import Command
 from query.proofs.lengths import lengths
 from query.texts.contributed import Contributed, contributed
@@ -36,7 +30,6 @@ How many theorems each contributor has is told by `contributors`.
   $ mmquery uncited set.mm --main >labels; mmquery proofs set.mm --among labels --most 999999
 """
 COLUMNS = ("steps", "depth", "bytes", "theorem", "contributor", "contributed")
-FEW = 10
 
 
 def configure(parser: Parser) -> None:
@@ -46,7 +39,7 @@ def configure(parser: Parser) -> None:
     parser.add_argument(
         "--by", choices=COLUMNS[:3], default="steps", help="of what most (else: steps)"
     )
-    parser.value("--most", "N", "without LABEL: how many (else: 10)", type=positive, default=FEW)
+    parser.number("--most", "N", "without LABEL: how many", 10)
     add_choice_of_citations(parser)
 
 

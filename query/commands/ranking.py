@@ -87,12 +87,16 @@ theorem  the label of the theorem
 
 
 SETS = ("theorems", "size", "first", "axioms")
+SHOWN_RANKS = 10
+"""So many `top` shows where no number is given."""
 
 
 def configure_top(parser: Parser) -> None:
     """The words and options of `top`."""
     add_database(parser)
-    parser.add_argument("number", metavar="N", nargs="?", type=positive, help="how many (else: 10)")
+    parser.add_argument(
+        "number", metavar="N", nargs="?", type=positive, help=f"how many (else: {SHOWN_RANKS})"
+    )
     parser.exclude("--theorems", "--below", "--against")
     parser.exclude("--theorems", "--outside-mathboxes", "--against")
     parser.flag("--theorems", "rank theorems, not axioms")
@@ -154,7 +158,7 @@ def put_ranking(context: Context, arguments: argparse.Namespace, database: Datab
     passing: Sequence[Sequence[Value]] = context.passing(rows, len(columns) - 1)
     if arguments.below is None or arguments.number is not None:
         passing = sorted(passing, key=lambda row: -int(str(row[0])))
-        passing = context.first(passing, arguments.number or 10, LARGER)
+        passing = context.first(passing, arguments.number or SHOWN_RANKS, LARGER)
     context.out.table(columns, passing)
 
 

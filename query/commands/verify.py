@@ -7,13 +7,7 @@ from typing import TYPE_CHECKING
 
 from query.answers.output import Value
 from query.arguments.context import Context
-from query.arguments.options import (
-    Parser,
-    add_choice_of_citations,
-    add_database,
-    options_of,
-    positive,
-)
+from query.arguments.options import Parser, add_choice_of_citations, add_database, options_of
 from query.commands import Command
 from query.platform import progress
 from query.program import mmdepend
@@ -85,7 +79,7 @@ def configure(parser: Parser) -> None:
     """The words and options of `verify`."""
     add_database(parser)
     parser.flag("--each", "the faults of all proofs")
-    parser.value("--most", "N", "with --each: how many (else: 100)", type=positive, default=100)
+    parser.number("--most", "N", "with --each: how many", 100)
     add_choice_of_citations(parser)
 
 
