@@ -13,6 +13,7 @@ const [, , modulePath, program, count, seed, ...files] = process.argv;
 const module = await compile(fs.readFileSync(modulePath));
 const TYPECODES = [null, null, "|-", "wff", "é", ""];
 const SIGNS = [" $.", "$(", "$)", " ${ ", " $} ", "$[ x $]", "\xff", "\t", " ? ", "$d x y $.", "$=", "Z", "(", ")", "\r\n"];
+/** Texts of fewer bytes are also tried with little memory, and with changes, many times each. */
 const SMALL = 1 << 20;
 const runs = { passed: 0, failed: 0 };
 

@@ -78,7 +78,7 @@ The codes of faults (E00 to E45) are explained in docs/FAULTS.md.
 `;
 // end options
 
-/** Ends the reading with a text. */
+/** Ends the reading of the words: `line` is what was read, which has a text in place of what to run. */
 class End extends Error {
     /**
      * @param {"help" | "misread"} ends

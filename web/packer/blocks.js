@@ -39,6 +39,7 @@ import { visible } from "./visible.js";
 
 /** How many comments are in a block. */
 const COMMENTS_IN_BLOCK = 512;
+/** How many characters of a chapter's title the page shows, with that which says that it is cut. */
 const LONGEST_TITLE = 160;
 
 /**

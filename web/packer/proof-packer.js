@@ -173,6 +173,7 @@ function labelsOf(counts, kinds, kind, itemOf) {
     return found;
 }
 
+/** Stands for a `$e` among numbers of assertions; no text has as many. */
 const NO_ASSERTION = 0xffffffff;
 
 /** Packs the proofs of a database, block by block. */

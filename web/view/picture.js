@@ -11,6 +11,7 @@ import { GROUPS } from "./model.js";
 
 /** Counts of marks are kept for blocks of this many rows, so that the whole is drawn without each mark. */
 const BLOCK = 16;
+/** So many shades a dot can have, from the background to the colour of its group. */
 const SHADES = 64;
 const NARROW_PICTURE = 520; // below this width chapters have no names in the picture
 const HEADER = 10; // the height of the band that shows the groups of the columns
