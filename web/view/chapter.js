@@ -73,6 +73,7 @@ export class ChapterView {
     }
 
     /**
+     * How many statements the chapter has, and on how many axioms a theorem of it rests at most.
      * @param {Chapter} chapter
      * @param {number} firstRow
      * @param {number} endRow

@@ -89,6 +89,7 @@ export class DifferenceView {
     }
 
     /**
+     * How much differs, of each kind.
      * @param {number} axioms
      * @param {number} added
      * @param {number} shifted

@@ -67,6 +67,8 @@ export const LONGEST_FORMULA = 25_000;
 /** So many labels or lines are shown at first. */
 const FIRST_LABELS = 300;
 const FIRST_LINES = 100;
+/** So many more lines the button shows. */
+const MORE_LINES = 500;
 /** So many entries of other lists are made at a time: a database may have any number of anything. */
 export const MOST_AT_ONCE = 2000;
 const MOST_LABELS_AT_ONCE = 50_000;
@@ -397,7 +399,7 @@ export class Elements {
      */
     lines(numbers, limit = FIRST_LINES) {
         const list = element("ul", { class: "lines" });
-        return this.inParts(list, numbers, limit, 500, (number) => this.line(number));
+        return this.inParts(list, numbers, limit, MORE_LINES, (number) => this.line(number));
     }
 
     /**
@@ -415,30 +417,30 @@ export class Elements {
      * The same, with how many come first, and how many then.
      * @template Entry
      * @param {HTMLElement} list
-     * @param {ArrayLike<Entry>} numbers
+     * @param {ArrayLike<Entry>} entries
      * @param {number} limit
      * @param {number} step
      * @param {(entry: Entry) => Node} make
      * @returns {HTMLElement}
      */
-    inParts(list, numbers, limit, step, make) {
+    inParts(list, entries, limit, step, make) {
         let shown = 0;
         const put = (/** @type {number} */ end) => {
             const part = document.createDocumentFragment();
-            for (; shown < Math.min(end, numbers.length); shown++) part.append(make(numbers[shown]));
+            for (; shown < Math.min(end, entries.length); shown++) part.append(make(entries[shown]));
             list.append(part);
         };
         put(limit);
-        if (shown === numbers.length) return list;
+        if (shown === entries.length) return list;
         const button = element("button", { type: "button", class: "more" });
         const name = () => {
-            const left = numbers.length - shown;
-            button.textContent = left <= step ? `Show all ${withCommas(numbers.length)}` : `Show ${withCommas(step)} more`;
+            const left = entries.length - shown;
+            button.textContent = left <= step ? `Show all ${withCommas(entries.length)}` : `Show ${withCommas(step)} more`;
         };
         button.addEventListener("click", () => {
             const first = shown;
             put(shown + step);
-            if (shown === numbers.length) button.remove();
+            if (shown === entries.length) button.remove();
             else name();
             list.children[first].querySelector("a")?.focus();
         });

@@ -10,12 +10,15 @@ import { Search, placesOf } from "./search.js";
 /** @typedef {import("./symbols.js").Symbols} Symbols */
 /** @typedef {import("./types.js").Found} Found */
 
-/** How many of what was found are shown below the field, and at a time in the view. */
+/** How many of what was found are shown below the field, in the view at first, and more at a time. */
 const MOST_OFFERED = 24;
-const SHOWN_IN_VIEW = 100;
+const FIRST_IN_VIEW = 100;
+const MORE_IN_VIEW = 1000;
 /** Letters before a word that was found: in one line, which may be a telephone's, and in several. */
 const LETTERS_BEFORE = 20;
-const AROUND = 60;
+const LETTERS_BEFORE_IN_SEVERAL = 60;
+/** So many letters of a comment are shown at the most. */
+const LONGEST_EXCERPT = 240;
 /** A label with more letters is cut below the field. */
 const LONGEST_LABEL = 240;
 /** The first half of a sign such as 𝐴, where the second one is cut off. */
@@ -232,7 +235,7 @@ export class Finder {
         return [
             element("h1", { tabindex: -1 }, `Search: ${typed}`),
             element("p", { class: "lead", id: "found-told", role: "status" }, summary),
-            numbers.length > 0 ? this.elements.inParts(list, numbers, SHOWN_IN_VIEW, 1000, make) : "",
+            numbers.length > 0 ? this.elements.inParts(list, numbers, FIRST_IN_VIEW, MORE_IN_VIEW, make) : "",
         ];
     }
 
@@ -244,7 +247,10 @@ export class Finder {
         const line = this.elements.line(number);
         const said = this.model.knownComment(number) ?? "";
         const isSaid = words.some((word) => said.toLowerCase().includes(word));
-        if (isSaid) line.append(element("p", { class: "hint said-there" }, ...this.excerpt(said, words, AROUND)));
+        if (isSaid) {
+            const excerpt = this.excerpt(said, words, LETTERS_BEFORE_IN_SEVERAL);
+            line.append(element("p", { class: "hint said-there" }, ...excerpt));
+        }
         return line;
     }
 
@@ -280,7 +286,7 @@ function around(text, words, before) {
     const at = places.reduce((first, place) => Math.min(first, place), places[0] ?? 0);
     const space = text.indexOf(" ", Math.max(0, at - before));
     const from = at <= before ? 0 : space >= 0 && space < at ? space + 1 : at;
-    const end = from + 4 * AROUND;
+    const end = from + LONGEST_EXCERPT;
     const cut = text.slice(from, end).replace(HALF, "");
     return `${from > 0 ? "…" : ""}${cut}${end < text.length ? "…" : ""}`;
 }

@@ -13,6 +13,8 @@ import { GROUPS } from "./model.js";
 const BLOCK = 16;
 /** So many shades a dot can have, from the background to the colour of its group. */
 const SHADES = 64;
+/** The part of the colour in the first of them, so that a single mark is seen. */
+const FAINTEST = 0.22;
 const NARROW_PICTURE = 520; // below this width chapters have no names in the picture
 const HEADER = 10; // the height of the band that shows the groups of the columns
 
@@ -286,7 +288,7 @@ export class Picture extends Drawing {
         return GROUPS.map((group) => {
             const full = this.colours.parts(`--group-${group.key}`);
             return Uint32Array.from({ length: SHADES }, (_, shade) => {
-                const weight = shade === 0 ? 0 : 0.22 + (0.78 * shade) / (SHADES - 1);
+                const weight = shade === 0 ? 0 : FAINTEST + ((1 - FAINTEST) * shade) / (SHADES - 1);
                 const mixed = full.map((value, index) => Math.round(ground[index] + (value - ground[index]) * weight));
                 const [red, green, blue] = mixed;
                 return ((255 << 24) | (blue << 16) | (green << 8) | red) >>> 0;

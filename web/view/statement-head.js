@@ -115,7 +115,7 @@ export class Statements {
     }
 
     /**
-     * Dummy variables, each with those from which it must be distinct.
+     * A star for each dummy variable: it, and those from which it must be distinct.
      * @param {string[][]} groups
      */
     stars(groups) {
