@@ -10,7 +10,7 @@ from query.arguments.options import Parser, add_choice_of_axioms, add_database, 
 from query.commands import Command
 from query.comparisons.changed_statements import COLUMNS as BOTH, Change, changes, lines_of, most_of
 from query.comparisons.changes import Comparison, side_by_side
-from query.comparisons.pairing import ANOTHER_ORDER, Pairing
+from query.comparisons.pairing import SAME_THEOREM, Pairing
 from query.program.source import is_same_file
 
 Row = tuple[Value, ...]
@@ -26,6 +26,7 @@ others; with AXIOM.., all lines are about these.
                     and the pairs of its variables that must be distinct. This is a guess
            changed  the same label, another statement. Such a theorem neither gains nor loses an
                     axiom, since it isn't one of both, unless only the order of its `$f` is other
+                    or the names of its variables are
            gained   a theorem of both that came to rest on an axiom
            lost     a theorem of both that no longer rests on one
   kind     axiom or theorem
@@ -150,15 +151,16 @@ def why_empty(arguments: argparse.Namespace, comparison: Comparison, otherwise: 
     return f"{names} {'are the same file' if is_one else otherwise}"
 
 
-def reordered(*pairings: Pairing) -> dict[str, list[str]]:
-    """A remark on what counts as changed only because its `$f` are in another order."""
-    labels = [
-        label
-        for pairing in pairings
-        for label, differ in pairing.changed.items()
-        if differ == ANOTHER_ORDER
-    ]
-    return {f"of {{}} changed {ANOTHER_ORDER}, such as {{}}": labels}
+def the_same_theorems(*pairings: Pairing) -> dict[str, list[str]]:
+    """Remarks on what counts as changed only because its `$f` are in another order, or its
+    variables have other names."""
+    changed = [pair for pairing in pairings for pair in pairing.changed.items()]
+    return {
+        f"of {{}} changed {words}, such as {{}}": [
+            label for label, differ in changed if differ == words
+        ]
+        for words in SAME_THEOREM
+    }
 
 
 def run(context: Context, arguments: argparse.Namespace) -> int:
@@ -169,7 +171,7 @@ def run(context: Context, arguments: argparse.Namespace) -> int:
     rows = [*about_theorems(comparison, arguments.axiom, most)]
     rows += about_axioms(comparison, arguments.axiom, most)
     empty = why_empty(arguments, comparison, "don't differ in this")
-    remarks = reordered(comparison.theorems, comparison.axioms)
+    remarks = the_same_theorems(comparison.theorems, comparison.axioms)
     context.table(COLUMNS, rows, empty, aside=BOTH, remarks=remarks)
     if context.out.format == "text":
         changed = [row for row in rows if row[0] == "changed"]

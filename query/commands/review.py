@@ -9,7 +9,7 @@ from query.answers.output import Value
 from query.arguments.context import Context
 from query.arguments.options import Parser, add_choice_of_axioms, add_database
 from query.commands import TABLE_FORMATS, Command
-from query.commands.compare import compared, reordered, why_empty
+from query.commands.compare import compared, the_same_theorems, why_empty
 from query.comparisons.causes import Causes
 from query.comparisons.changed_statements import (
     COLUMNS as BOTH,
@@ -39,7 +39,8 @@ status   new:     only NEW has it
          gone:    only OLD has it
          renamed: it had another label
          changed: the same label, another statement. Such a theorem neither gains nor loses an
-                  axiom, unless only the order of its `$f` is other
+                  axiom, unless only the order of its `$f` is other or the names of its variables
+                  are
          moved:   it stands before or behind others than it did
          proof:   it has another proof; one theorem may have several of these words
 was      of a renamed one the label in OLD
@@ -58,7 +59,7 @@ proof. Where a theorem became an axiom, that is the edit. Each theorem is counte
 first on a shortest chain to the axiom; by another edit it may rest on the axiom all the same.
 
 The table has only what this change touches itself: `compare` lists all theorems that came to rest
-on an axiom. Standard error says how many axioms of any typecode are new, changed, renamed and gone,
+on an axiom. Standard error says which axioms of any typecode are new, changed, renamed and gone,
 and of each new or changed definition what it defines, or why it isn't sound. With --format markdown
 it is a comment for the pull request, which says first which axioms these are, then at most 60 edits
 that let axioms in, then what new and changed definitions define, and then has at most 60 theorems,
@@ -114,13 +115,12 @@ def run(context: Context, arguments: argparse.Namespace) -> int:
     if context.out.format == "markdown":
         context.out.text(comment(comparison, changes, causes))
         return 0
-    axioms = changed_axioms(comparison)
-    counts = ", ".join(f"{len(labels)} {word}" for word, labels in axioms.items() if labels)
+    counts = axioms_in_words(comparison, cut)
     counts += "".join(f"; {each}" for each in definitions_in_words(comparison, cut))
     if counts and changes:
         context.tell(f"axioms: {counts}")
     told = f"; axioms: {counts}" if counts else ""
-    remarks = reordered(comparison.theorems, comparison.axioms)
+    remarks = the_same_theorems(comparison.theorems, comparison.axioms)
     rows = [each.row() for each in changes]
     if context.out.format == "text" and causes.found:
         context.out.text("".join(f"{each}\n" for each in (*causes_in_words(causes, cut), "")))
@@ -234,7 +234,7 @@ def comment(comparison: Comparison, changes: Sequence[Outcome], causes: Causes) 
     is a link or a mention, and labels have no sign that would end it."""
     counts = {word: sum(word in each.status for each in changes) for word in STATUSES}
     parts = [f"{count} {STATUSES[word]}" for word, count in counts.items() if count]
-    lines = [f"**Axioms**: {axioms_in_words(comparison)}.", ""]
+    lines = [f"**Axioms**: {axioms_in_words(comparison, code) or 'no change'}.", ""]
     if causes.found:
         edits = [f"- {each}." for each in causes_in_words(causes, code)]
         left = [f"- {len(edits) - SHOWN_ROWS} more edits."] if len(edits) > SHOWN_ROWS else []
@@ -273,14 +273,15 @@ def statement_lines(comparison: Comparison, changes: Sequence[Outcome]) -> list[
     return lines
 
 
-def axioms_in_words(comparison: Comparison) -> str:
-    """How many axioms are new, changed, renamed and gone, and which ones."""
+def axioms_in_words(comparison: Comparison, shown: Callable[[str], str]) -> str:
+    """How many axioms are new, changed, renamed and gone, and which ones; "" where none is. `shown`
+    says how a label is."""
     parts = []
     for word, labels in changed_axioms(comparison).items():
         was = comparison.axioms.renamed if word == "renamed" else {}
-        named = [code(label) + (f" from {code(was[label])}" if was else "") for label in labels]
+        named = [shown(label) + (f" from {shown(was[label])}" if was else "") for label in labels]
         parts += [f"{len(named)} {word} ({listed(named)})"] if named else []
-    return ", ".join(parts) if parts else "no change"
+    return ", ".join(parts)
 
 
 def causes_in_words(causes: Causes, shown: Callable[[str], str]) -> Iterator[str]:

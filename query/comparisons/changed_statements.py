@@ -11,7 +11,7 @@ from typing import NamedTuple
 
 from query.answers.excerpts import cut, cut_both
 from query.comparisons.changes import Comparison
-from query.comparisons.pairing import DISTINCT, FORMULA, HYPOTHESES
+from query.comparisons.pairing import DISTINCT, FORMULA, HYPOTHESES, OTHER_NAMES
 from query.texts.assertions import Assertion, Frame, Pair
 
 COLUMNS = ("differ", "old", "new")
@@ -46,7 +46,7 @@ def changes(comparison: Comparison, kind: str, most: int) -> Iterator[Change]:
 def change_of(before: Assertion, after: Assertion, differ: str, most: int) -> Change:
     """An assertion that was changed, with so many characters of its statements at the most."""
     frames = before.frame(), after.frame()
-    parts = [hypotheses(*frames)] if HYPOTHESES in differ else []
+    parts = [hypotheses(*frames)] if HYPOTHESES in differ or differ == OTHER_NAMES else []
     if DISTINCT in differ:
         parts.append(distinct(*frames))
     elif not parts and FORMULA not in differ:

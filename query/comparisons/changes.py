@@ -16,7 +16,7 @@ from query.citations.graph import Graph
 from query.citations.marks import columns_of, mask
 from query.comparisons.differences import Differences, compared
 from query.comparisons.pairing import (
-    ANOTHER_ORDER,
+    SAME_THEOREM,
     Cites,
     Pairing,
     Statement,
@@ -234,7 +234,7 @@ class Comparison:
         """The theorems of which one label says something else in OLD and in NEW. What one rests on
         and the other doesn't is no gain or loss."""
         changed = self.theorems.changed.items()
-        return frozenset(label for label, differ in changed if differ != ANOTHER_ORDER)
+        return frozenset(label for label, differ in changed if differ not in SAME_THEOREM)
 
     def shift(self, theorem: str, was: str) -> tuple[list[str], list[str]]:
         """The axioms on which a theorem rests in NEW alone, by their labels there, and those on

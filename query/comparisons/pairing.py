@@ -11,7 +11,7 @@ from __future__ import annotations
 
 from array import array
 from collections import deque
-from collections.abc import Callable, Iterable, Iterator, Mapping
+from collections.abc import Callable, Iterable, Iterator, Mapping, Sequence
 from dataclasses import dataclass, field
 from functools import cached_property
 from hashlib import blake2b
@@ -24,6 +24,10 @@ Cites = Callable[[str], frozenset[str]]
 
 ANOTHER_ORDER = "only the order of `$f` is other"
 """A proof gives the hypotheses in their order, so this is another frame."""
+OTHER_NAMES = "only the names of variables are other"
+SAME_THEOREM = (ANOTHER_ORDER, OTHER_NAMES)
+"""Where statements differ in no more than this, a theorem is the same one to what rests on axioms.
+"""
 FORMULA, HYPOTHESES, DISTINCT = "the formula", "the hypotheses", "the $d conditions"
 """In what statements differ."""
 
@@ -119,13 +123,14 @@ class Pairing:
 
 
 def pairing_of(
-    gone: Iterable[Assertion], new: Iterable[Assertion], old_cites: Cites, new_cites: Cites
+    gone: Sequence[Assertion], new: Sequence[Assertion], old_cites: Cites, new_cites: Cites
 ) -> Pairing:
     """Pairs assertions of one kind that OLD alone has with those that NEW alone has. The citations
     are asked for only where several say the same."""
     before = {one.label: (one.letter, statement_of(one)) for one in gone}
     after = {one.label: (one.letter, statement_of(one)) for one in new}
     words = {label: in_words(before[label], one) for label, one in after.items() if label in before}
+    words |= dict.fromkeys(with_other_names(gone, new, words), OTHER_NAMES)
     opened = {label for label, differ in words.items() if not differ}
     old_ones, new_ones = (
         by_statement({label: said for label, (_, said) in some.items() if label not in opened})
@@ -153,6 +158,45 @@ def in_words(old: tuple[str, Statement], new: tuple[str, Statement]) -> str:
     if not words and old[0] == new[0]:
         raise Damaged
     return words
+
+
+def with_other_names(
+    gone: Iterable[Assertion], new: Iterable[Assertion], words: Mapping[str, str]
+) -> Iterator[str]:
+    """The labels of those whose statements differ, by these words, in the names of variables alone.
+    In which order their `$f` are doesn't matter then."""
+    before = {one.label: one for one in gone if words.get(one.label)}
+    for one in new:
+        differ = words.get(one.label)
+        if differ and differ != ANOTHER_ORDER and are_alike(before[one.label], one):
+            yield one.label
+
+
+def are_alike(old: Assertion, new: Assertion) -> bool:
+    """Whether two statements are the same but for the names of variables and the order of `$f`.
+    Each mandatory variable stands in a formula."""
+    frames = old.frame(), new.frame()
+    typecodes, formulas = [], []
+    for one, frame in zip((old, new), frames):
+        given = frame.hypotheses()
+        floating = (each.formula.split(" ") for each in given if each.kind == "f")
+        typecodes.append({variable: typecode for typecode, variable in floating})
+        essential = [each.formula for each in given if each.kind == "e"]
+        formulas.append(" \n ".join([*essential, one.formula]).split(" "))
+    names: dict[str, str] = {}
+    if len(formulas[0]) != len(formulas[1]) or len(typecodes[0]) != len(typecodes[1]):
+        return False
+    for before, after in zip(*formulas):
+        typecode = typecodes[0].get(before)
+        if typecode != typecodes[1].get(after):
+            return False
+        if before != after and typecode is None or names.setdefault(before, after) != after:
+            return False
+    if len({*names.values()}) < len(names):
+        return False
+    renamed = ((names[one], names[other]) for one, other in frames[0].pairs())
+    pairs = ((min(pair), max(pair)) for pair in renamed)
+    return sum_of_pairs(pairs) == sum_of_pairs(frames[1].pairs())
 
 
 def by_statement(said: Mapping[str, Statement]) -> dict[Statement, list[str]]:

@@ -5,11 +5,13 @@ import os
 import random
 import re
 from collections import Counter
+from itertools import permutations, product
 from unittest import mock
 
-from query.comparisons.pairing import difference, statement_of
+from query.comparisons.pairing import OTHER_NAMES, are_alike, difference, statement_of
 from query.tests import replay
 from query.tests.world import SMALL, World, asked, built_program, database_text
+from query.texts.assertions import Assertion
 from tests.shared.generations import Generation, Part, generation, next_generation
 
 Row = dict[str, str]
@@ -45,6 +47,26 @@ def expected(old: Generation, new: Generation) -> set[tuple[str, ...]]:
             for axiom in there.rests(part.number) - other.rests(part.number):
                 rows.add((change, "theorem", part.label, "", there.label(axiom)))
     return rows
+
+
+def is_renamed(old: Assertion, new: Assertion) -> bool:
+    """Whether some renaming of variables makes one statement the other, by trying all."""
+    said = []
+    for one in (old, new):
+        hypotheses = one.frame().hypotheses()
+        kinds = dict(each.formula.split(" ")[::-1] for each in hypotheses if each.kind == "f")
+        essential = [each.formula for each in hypotheses if each.kind == "e"]
+        words = [formula.split(" ") for formula in [*essential, one.formula]]
+        said.append((kinds, words, {frozenset(pair) for pair in one.frame().pairs()}))
+    (kinds, formulas, pairs), (others, wanted, apart) = said
+    for names in permutations(others) if len(kinds) == len(others) else ():
+        to_new = dict(zip(kinds, names))
+        renamed = [[to_new.get(word, word) for word in formula] for formula in formulas]
+        moved = {frozenset(to_new[name] for name in pair) for pair in pairs}
+        same_kinds = all(kinds[name] == others[to_new[name]] for name in kinds)
+        if same_kinds and renamed == wanted and moved == apart:
+            return True
+    return False
 
 
 class Comparisons(World):
@@ -329,6 +351,49 @@ class Restated(World):
         old, new = "$f wff q $. $f wff r $. |- ( r -> q )", "$f wff r $. $f wff q $. |- ( r -> q )"
         wanted = [("changed", "one", None, old, new), ("lost", "one", "ax-2", None, None)]
         self.assertEqual(told, [*wanted, ("gained", "one", "ax-3", None, None)])
+
+    def test_other_names(self) -> None:
+        """A variable that has another name hides nothing that a theorem gained."""
+        cited = "${ $d p q $. e.2 $e |- p $. ax-2 $a |- ( p -> q ) $. $}\n"
+        cited += "${ $d p q $. e.3 $e |- p $. ax-3 $a |- ( p -> q ) $. $}\n"
+        old = "${ $d q r $. e $e |- r $. one $p |- ( r -> q ) $= wr wq e ax-2 $. $}\n"
+        new = "${ $d p r $. e $e |- p $. one $p |- ( p -> r ) $= wp wr e ax-3 $. $}\n"
+        self.write("old.mm", self.HEAD + cited + old)
+        self.write("new.mm", self.HEAD + cited + new)
+        done = self.query("compare", "old.mm", "new.mm", "--format=json")
+        told = [
+            (row["change"], row["label"], row["axiom"], row["differ"], row["old"], row["new"])
+            for row in done.rows()
+        ]
+        both = (OTHER_NAMES, "$e |- r $. |- ( r -> q )", "$e |- p $. |- ( p -> r )")
+        lost, gained = (
+            (way, "one", f"ax-{n}", *[None] * 3) for way, n in (("lost", 2), ("gained", 3))
+        )
+        self.assertEqual(told, [("changed", "one", None, *both), lost, gained])
+        self.assertIn(f"of 1 changed {OTHER_NAMES}, such as one", done.err)
+        (row,) = self.query("review", "old.mm", "new.mm", "--format=json").rows()
+        self.assertEqual((row["gained"], row["lost"], row["via"]), (["ax-3"], ["ax-2"], ["ax-3"]))
+
+    def test_what_is_alike(self) -> None:
+        """By chance: whether some renaming of the variables of one statement gives the other."""
+        chance = random.Random(12)
+        kinds = {"p": "wff", "q": "wff", "r": "wff", "x": "set", "y": "set"}
+        text = "$c wff set |- ( ) $. $v p q r x y $.\n"
+        text += "".join(f"f{name} $f {kind} {name} $. " for name, kind in kinds.items())
+        for number in range(60):
+            symbols = [*kinds, "(", ")"]
+            given, said = (chance.choices(symbols, k=chance.randint(0, 2)) for _ in "12")
+            pairs = [chance.sample([*kinds], 2) for _ in range(chance.randint(0, 2))]
+            text += "${ " + "".join(f"$d {' '.join(pair)} $. " for pair in pairs)
+            text += f"e{number} $e |- {' '.join(given)} $. " if chance.random() < 0.5 else ""
+            text += f"a{number} $a |- {' '.join(said)} $. $}}\n"
+        ones = database_text(text.encode()).assertions
+        alike = 0
+        for old, new in product(ones, ones):
+            found = are_alike(old, new)
+            self.assertEqual(found, is_renamed(old, new), (old, new))
+            alike += found
+        self.assertGreater(alike, len(ones) + 20)
 
     def test_what_a_changed_theorem_rests_on(self) -> None:
         """It neither gains nor loses an axiom, what cites it does, and the gate finds both."""
