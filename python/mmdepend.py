@@ -36,6 +36,7 @@ PARTS = {"all": 7, "matrix": 1, "counts": 2, "usage": 4, "citations": 8, "statem
 # end sections
 USAGE = PARTS["usage"]
 NAMES = ("libmmdepend.so.0", "libmmdepend.so")
+# Memory is lent in units of so many bytes, and from a multiple of them on, as `mmdepend.h` says.
 UNIT = 16
 # A longer text is refused, with this code and at this place, whatever stands in it.
 MOST_BYTES = 2_147_483_647

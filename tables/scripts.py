@@ -11,7 +11,7 @@ from tables.options import Option, options_of
 from tables.sources import Program
 from tables.words import OF_NODE, PAGE, Words, sentence
 
-WIDTH = 125
+WIDTH = 125  # of a line of JavaScript
 CONST = "/** @type {const} */"
 
 

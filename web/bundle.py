@@ -40,7 +40,7 @@ STRICT = ("base-uri 'none'", "form-action 'none'", "require-trusted-types-for 's
 HOLDER = '<script type="application/octet-stream" id="data-{name}">\n{signs}\n</script>'
 PLACE = re.compile(r"\{\{(\w+)\}\}")
 INDENT = re.compile(r"^(?: {4})+", re.M)
-WIDTH = 120
+WIDTH = 120  # letters of base64 in a line
 
 
 def bundled(entry: Path, *flags: str, given: str | None = None) -> str:

@@ -18,9 +18,10 @@ const OTHERS = [
 const DOCUMENT = /^%PDF-/;
 /** Bytes that no text has. */
 const NO_TEXT = /[\x00-\x08\x0e-\x1f\x7f]/;
-/** How a member of a file begins that is compressed by gzip, and how often no member begins where it could. */
-const MEMBER = [0x1f, 0x8b, 0x08];
+/** How a member of a file begins that is compressed by gzip; behind that come flags, of which these are never set. */
+const MEMBER = [...GZIP, 0x08];
 const RESERVED_FLAGS = 0xe0;
+/** How often a member may seem to begin where none does. */
 const MOST_TRIES = 64;
 /** How a report begins, or a refusal; neither is ever the beginning of a database that is accepted. */
 const REPORT = /^(?:mmdepend [0-9]+|refused [^ \n]+ E[^ \n]*)(?:\n|$)/;
@@ -43,7 +44,7 @@ export class TooLong extends Error {}
 export async function chosen(file, isShared, tell) {
     const name = visible(file.name);
     if (file.size > MOST_DATABASE_BYTES) throw new TooLong();
-    const bytes = await bytesOf(file, name);
+    const bytes = await bytesOfChosen(file, name);
     const begins = (/** @type {number[]} */ signs) => signs.every((sign, at) => bytes[at] === sign);
     const other = OTHERS.find(({ signs }) => begins(signs));
     if (other) throw new Unfit(`${name} is compressed by ${other.name}, which no browser unpacks. Unpack it first.`);
@@ -52,7 +53,7 @@ export async function chosen(file, isShared, tell) {
     if (begins(GZIP)) {
         tell(`Unpacking ${name}`);
         const text = await unpacked(bytes, name);
-        return { name, file: isShared ? text : await bytesOf(text, name) };
+        return { name, file: isShared ? text : await bytesOfChosen(text, name) };
     }
     if (NO_TEXT.test(first) || DOCUMENT.test(first)) {
         throw new Unfit(`${name} is no text: it begins with bytes that no database has. A database is a file .mm.`);
@@ -61,11 +62,11 @@ export async function chosen(file, isShared, tell) {
 }
 
 /**
- * The bytes of a file, or of what the browser holds.
+ * The bytes of a file, or of what the browser holds. Unfit where it can't be read.
  * @param {Blob} file
  * @param {string} name
  */
-async function bytesOf(file, name) {
+async function bytesOfChosen(file, name) {
     try {
         return new Uint8Array(await file.arrayBuffer());
     } catch (error) {
