@@ -489,6 +489,7 @@ complete -c mmquery -n '__fish_seen_subcommand_from contributors' -l limit-time 
 complete -c mmquery -n '__fish_seen_subcommand_from contributors' -l limit-memory -r -d 'for verifying a text (else: 256, and 64 for each MB)'
 complete -c mmquery -n '__fish_seen_subcommand_from contributors' -s h -l help -d 'show this page'
 complete -c mmquery -n '__fish_seen_subcommand_from order' -l columns -r -d 'a column for AXIOM, whether a theorem rests on it; several: by commas, or more options'
+complete -c mmquery -n '__fish_seen_subcommand_from order' -l proofs -d 'columns for the length and depth of proofs, and for contributors'
 complete -c mmquery -n '__fish_seen_subcommand_from order' -l only -r -d 'the axioms are those of typecode T (else: |-)'
 complete -c mmquery -n '__fish_seen_subcommand_from order' -l all -d 'the axioms are all $a statements'
 complete -c mmquery -n '__fish_seen_subcommand_from order' -l axioms -r -d 'only axioms whose label begins with WORD; several: by commas, or more options'

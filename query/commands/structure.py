@@ -26,9 +26,11 @@ from query.citations.crossing import (
 )
 from query.citations.graph import Graph
 from query.commands import Command
+from query.proofs.lengths import Length, lengths as lengths_of
 from query.reports.choice import Options
 from query.reports.database import Database, Dependence
 from query.texts.assertions import Assertion
+from query.texts.contributed import contributed
 from query.texts.discouraged import discouraged_labels, is_proof_discouraged
 from query.texts.text import Text
 
@@ -74,6 +76,8 @@ LEVELS = ("part", "chapter", "section", "subsection")
 
 ORDER = ("line", "kind", "typecode", "count", "label", "header")
 """The columns of `order`."""
+OF_PROOFS = ("steps", "depth", "bytes", "contributor", "contributed")
+"""Those that `order --proofs` has besides, as `proofs` has them."""
 
 ORDER_PAGE = """
 Lists axioms and theorems together, in file order.
@@ -88,11 +92,13 @@ header    the number of the header under which it stands, as `chapters` numbers 
 
 With --columns, behind these one for each AXIOM, which has its label for a name: whether a theorem
 rests on the axiom, yes or no (true or false in the other formats); nothing for what isn't a
-theorem. With --format=csv it is a table for a spreadsheet.
+theorem. With --proofs, behind all of these how long its proof is, how deep it stands, who
+contributed it and when, in columns as `proofs` has them. With --format=csv it is a table for a
+spreadsheet.
 
   $ mmquery order set.mm
   $ mmquery order set.mm --like 2p2e4
-  $ mmquery order set.mm --columns ax-reg,ax-ac2 --format=csv
+  $ mmquery order set.mm --columns ax-reg,ax-ac2 --proofs --format=csv
 """
 
 UNFINISHED_PAGE = """
@@ -298,6 +304,7 @@ def configure_order(parser: Parser) -> None:
     add_database(parser)
     about = "a column for AXIOM, whether a theorem rests on it; several: by commas, or more options"
     parser.values("--columns", "AXIOM", about)
+    parser.flag("--proofs", "columns for the length and depth of proofs, and for contributors")
     add_choice_of_axioms(parser)
 
 
@@ -307,6 +314,7 @@ def run_order(context: Context, arguments: argparse.Namespace) -> int:
     dependence = database.dependence()
     marked = marks_of(dependence, arguments.columns)
     text = database.text
+    lengths = lengths_of(text, dependence.graph) if arguments.proofs else None
     counts = dict(zip(dependence.axioms, dependence.sizes()))
     for row, label in enumerate(dependence.theorems):
         counts[label] = dependence.bits(row).bit_count()
@@ -317,10 +325,19 @@ def run_order(context: Context, arguments: argparse.Namespace) -> int:
         count, header = counts.get(one.label), text.chapter_number(one)
         own = dependence.rows.get(one.label)
         marks = [None if own is None else each[own] == 1 for each in marked.values()]
-        rows.append([line, kind, one.typecode, count, one.label, header, *marks])
-    columns = [*ORDER, *marked]
+        others = [] if lengths is None else about_proof(text, one, lengths.get(one.label))
+        rows.append([line, kind, one.typecode, count, one.label, header, *marks, *others])
+    columns = [*ORDER, *marked, *(OF_PROOFS if arguments.proofs else ())]
     context.out.table(columns, context.passing(rows, columns.index("label")))
     return 0
+
+
+def about_proof(text: Text, one: Assertion, length: Length | None) -> list[Value]:
+    """What `proofs` says of an assertion; of what has no proof who contributed it."""
+    whose = contributed(text.comment(one))
+    if length is None:
+        return [None, None, None, *whose]
+    return [length.steps, length.depth, length.size, *whose]
 
 
 def marks_of(dependence: Dependence, words: Sequence[str]) -> dict[str, bytes]:
@@ -332,7 +349,7 @@ def marks_of(dependence: Dependence, words: Sequence[str]) -> dict[str, bytes]:
         raise NoAnswer("--columns wants an AXIOM")
     for label in labels:
         column = dependence.column(label)
-        if label in ORDER:
+        if label in (*ORDER, *OF_PROOFS):
             raise NoAnswer(f"{dependence.name}: the axiom {label} has the name of another column")
         found[label] = dependence.marked(column)
     return found

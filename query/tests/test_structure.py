@@ -6,6 +6,7 @@ import shutil
 import subprocess
 import unittest
 
+from query.commands.structure import OF_PROOFS
 from query.tests.world import DATABASES, SMALL, World, built_program, database_text, invented
 from query.texts.assertions import Assertion
 
@@ -246,6 +247,25 @@ class Structure(World):
                     is_theorem = label in database.cites
                     marks = [each in rests if is_theorem else None for each in axioms]
                     self.assertEqual([row[each] for each in axioms], marks, label)
+
+    def test_columns_of_proofs(self) -> None:
+        """They have what `proofs` says, behind those of axioms."""
+        text = SMALL.replace("ax1 $p", "$( (Contributed by A B, 5-Aug-1993.) $) ax1 $p")
+        self.write("some.mm", text.replace("wi $a", "$( (Contributed by C, 1-Jan-2000.) $) wi $a"))
+        words = ("order", "some.mm", "--all", "--columns=ax-1", "--proofs", "--format=json")
+        rows = {str(row["label"]): [*row.items()] for row in self.query(*words).rows()}
+        self.assertEqual([name for name, _ in rows["wi"][6:]], ["ax-1", *OF_PROOFS])
+        self.assertEqual(
+            [said for _, said in rows["wi"][7:]], [None, None, None, "C", "2000-01-01"]
+        )
+        self.assertEqual([said for _, said in rows["ax-1"][7:]], [None] * 5)
+        proofs = self.query("proofs", "some.mm", "--most=99", "--format=json").rows()
+        self.assertEqual(len(proofs), 4)
+        for row in proofs:
+            found = dict(rows[str(row["theorem"])])
+            self.assertEqual([found[name] for name in OF_PROOFS], [row[name] for name in OF_PROOFS])
+        self.write("named.mm", text.replace("ax-1", "depth"))
+        self.refuses("order", "named.mm", "--columns=depth", why="the name of another column")
 
     def test_columns_as_csv(self) -> None:
         words = ("order", "--open", "db.mm", "--columns=ax-2,todo", "--format=csv", "--like=t*,a*")
