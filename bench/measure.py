@@ -22,7 +22,10 @@ def words(description: str | None) -> argparse.ArgumentParser:
         "--program", default=PROGRAM, help="the built program (default: that of this repository)"
     )
     parser.add_argument(
-        "--runs", type=int, default=3, help="runs of each text; the fastest counts (default 3)"
+        "--runs",
+        type=int,
+        default=3,
+        help="runs of each text; the fastest counts (default %(default)s)",
     )
     parser.add_argument(
         "--write", metavar="FILE", help="write the smaller text to FILE, and run nothing"

@@ -26,7 +26,7 @@ MOST_CACHE_BYTES = 1_000_000_000
 FORM = b"mmquery result 3\n"
 CODE = 32  # bytes
 NEW = ".new-"
-OLD_NEW = 3600  # seconds after which an unfinished file is one that was left behind
+UNFINISHED_SECONDS = 3600  # after which a file that isn't finished is one that was left behind
 OWN = re.compile(r"[0-9a-f]{40}|\.new-[0-9]+-[0-9a-f]+")
 """The names of files that are made here."""
 
@@ -141,7 +141,7 @@ def make_room(folder: str, size: int) -> None:
     unfinished files that were left behind."""
     found = entries(folder)
     total = sum(each[1] for each in found) + size
-    before = time.time() - OLD_NEW
+    before = time.time() - UNFINISHED_SECONDS
     for used, length, path in found:
         is_new = os.path.basename(path).startswith(NEW)
         if (is_new and used < before) or (not is_new and total > MOST_CACHE_BYTES):

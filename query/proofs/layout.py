@@ -93,7 +93,7 @@ def laid_out(labels: list[str], letters: str, old: bytes, width: int) -> bytes:
         lines.append(bytearray(indent + letters[done : done + wide].encode()))
         done += wide
     lines.append(bytearray(indent))
-    if len(lines[-2]) + 3 <= width:
+    if len(lines[-2]) + len(" $.") <= width:
         lines.pop()
         lines[-1] += b" "
     return end + end.join(lines)

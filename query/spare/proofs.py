@@ -12,7 +12,8 @@ from query.spare.rules import Rule, Rules, Scope
 
 STEPS, STEPS_OF_LETTER = 100_000, 20
 """So many steps, and so many for each letter of a proof, are taken to carry it out; a proof that
-takes more isn't changed. A citation of a long formula counts as several."""
+takes more isn't changed. None of set.mm takes one for two letters. A citation of a long formula
+counts as several."""
 
 
 class Unfit(Exception):

@@ -62,7 +62,7 @@ export class Model {
         this.theorems = theorems;
         this.axioms = axioms;
         this.hypotheses = readHypotheses(blocks);
-        this.words = Math.ceil(this.axioms.length / 32);
+        this.rowWords = Math.ceil(this.axioms.length / 32);
         this.bits = this.readRows(blocks);
         this.cited = Lists.fromGaps(blocks.get("cited-lengths"), blocks.get("cited-gaps"));
         this.groupOf = new Uint8Array(this.axioms.length);
@@ -105,12 +105,12 @@ export class Model {
     }
 
     /**
-     * The rows of the matrix, `words` numbers of 32 bits each; column c is bit c % 32 of number c / 32. Each is written as
+     * The rows of the matrix, `rowWords` numbers of 32 bits each; column c is bit c % 32 of number c / 32. Each is written as
      * what differs from the row that is so many rows `above` it, as MatrixPacker of packer/blocks.js writes it; 0 is none.
      * @param {BlockSource} blocks
      */
     readRows(blocks) {
-        const words = this.words;
+        const words = this.rowWords;
         const bits = new Uint32Array(this.theorems.length * words);
         const above = new Numbers(blocks.get("row-above"));
         const lengths = new Numbers(blocks.get("row-lengths"));
@@ -228,7 +228,7 @@ export class Model {
      * @param {number} column
      */
     isMarked(row, column) {
-        return ((this.bits[row * this.words + (column >>> 5)] >>> (column & 31)) & 1) === 1;
+        return ((this.bits[row * this.rowWords + (column >>> 5)] >>> (column & 31)) & 1) === 1;
     }
 
     /**
@@ -236,7 +236,7 @@ export class Model {
      * @param {number} row
      */
     columnsOf(row) {
-        return columnsIn(this.bits.subarray(row * this.words, (row + 1) * this.words));
+        return columnsIn(this.bits.subarray(row * this.rowWords, (row + 1) * this.rowWords));
     }
 
     /**
@@ -250,7 +250,7 @@ export class Model {
             let word = column >>> 5;
             for (let row = 0; row < falls.length; row++) {
                 falls[row] |= (this.bits[word] >>> shift) & 1;
-                word += this.words;
+                word += this.rowWords;
             }
         }
         return falls;
@@ -266,7 +266,7 @@ export class Model {
         let users = 0;
         const shift = column & 31;
         const word = column >>> 5;
-        for (let row = firstRow; row < endRow; row++) users += (this.bits[row * this.words + word] >>> shift) & 1;
+        for (let row = firstRow; row < endRow; row++) users += (this.bits[row * this.rowWords + word] >>> shift) & 1;
         return users;
     }
 
@@ -275,10 +275,10 @@ export class Model {
         if (!this.knownFirstUsers) {
             const first = new Int32Array(this.axioms.length).fill(-1);
             let left = this.usedAxioms;
-            const seen = new Uint32Array(this.words);
+            const seen = new Uint32Array(this.rowWords);
             for (let row = 0; row < this.theorems.length && left > 0; row++) {
-                for (let word = 0; word < this.words; word++) {
-                    let fresh = this.bits[row * this.words + word] & ~seen[word];
+                for (let word = 0; word < this.rowWords; word++) {
+                    let fresh = this.bits[row * this.rowWords + word] & ~seen[word];
                     seen[word] |= fresh;
                     while (fresh !== 0) {
                         first[word * 32 + lowestOf(fresh)] = row;

@@ -45,9 +45,9 @@ export class Counts {
      * @param {number} here
      */
     addRow(model, row, here) {
-        const { bits, words, groupOf } = model;
-        for (let word = 0; word < words; word++) {
-            let left = bits[row * words + word];
+        const { bits, rowWords, groupOf } = model;
+        for (let word = 0; word < rowWords; word++) {
+            let left = bits[row * rowWords + word];
             while (left !== 0) {
                 const column = word * 32 + lowestOf(left);
                 left &= left - 1;
@@ -232,14 +232,14 @@ export class Picture extends Drawing {
      * @param {Uint32Array} tall
      */
     countRows(down, across, marks, tall) {
-        const { bits, words } = this.model;
+        const { bits, rowWords } = this.model;
         const bins = new Int32Array(this.model.axioms.length).fill(-1);
         for (let index = across.low; index < across.high; index++) bins[this.order[index]] = across.of(index);
         for (let row = down.low; row < down.high; row++) {
             const downBin = down.of(row);
             tall[downBin]++;
-            for (let word = 0; word < words; word++) {
-                let left = bits[row * words + word];
+            for (let word = 0; word < rowWords; word++) {
+                let left = bits[row * rowWords + word];
                 while (left !== 0) {
                     const bin = bins[word * 32 + lowestOf(left)];
                     left &= left - 1;

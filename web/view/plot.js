@@ -68,6 +68,7 @@ export class Plot extends Drawing {
         return this.canvas.height - 1 - (number / this.most) * (this.canvas.height - 10 * this.ratio);
     }
 
+    /** Lines at round numbers of axioms, five at the most above that of none, each with its number. */
     drawScale() {
         const sizes = [1, 2, 5, 10, 20, 50, 100, 200, 500, 1000, 2000, 5000, 10000];
         const step = sizes.find((size) => this.most / size <= 5) ?? this.most;
