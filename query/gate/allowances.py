@@ -19,14 +19,14 @@ class Kept:
 
     def __init__(self) -> None:
         self.known: dict[str, Bits] = {}
-        self.kept_bytes = 0
+        self.size = 0  # in bytes
 
     def put(self, word: str, bits: Bits) -> Bits:
         """Keeps a set under a word."""
-        if self.kept_bytes > MOST_KEPT:
+        if self.size > MOST_KEPT:
             self.known.clear()
-            self.kept_bytes = 0
-        self.kept_bytes += bits.bit_length() // 8
+            self.size = 0
+        self.size += bits.bit_length() // 8
         self.known[word] = bits
         return bits
 

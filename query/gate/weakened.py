@@ -126,8 +126,8 @@ def allowances(old: Config, new: Config) -> Iterator[Finding]:
         ]
         for axiom, labels in lists.items():
             where = line(new, "allow", rule, axiom) or line(new, "allow", "newly", axiom)
-            before = [theorems for axioms, theorems in known if axioms.covers(axiom)]
+            allowed = [theorems for axioms, theorems in known if axioms.covers(axiom)]
             for word in labels.words:
-                if not any(theorems.covers(word) for theorems in before):
+                if not any(theorems.covers(word) for theorems in allowed):
                     reason = f"`allow.{rule}` lets '{word}' rest on '{axiom}' now"
                     yield Finding("config", new.name, where, word, axiom, reason)

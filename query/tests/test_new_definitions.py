@@ -225,8 +225,8 @@ class Reviewed(World):
         done = self.query("review", old, new)
         self.assertEqual(
             done.err,
-            "mmquery: axioms: 4 new (cfoo, df-foo, ctick, df-tick); df-foo defines Foo as { x | x = x }; df-tick is a new"
-            " definition that isn't sound (condition `distinct`)\n",
+            "mmquery: axioms: 4 new (cfoo, df-foo, ctick, df-tick); df-foo defines Foo as"
+            " { x | x = x }; df-tick is a new definition that isn't sound (condition `distinct`)\n",
         )
         lines = self.query("review", old, new, "--format=markdown").lines()
         self.assertIn("- `df-foo` defines `Foo` as `{ x | x = x }`", lines)
