@@ -42,6 +42,7 @@ class Lengths(unittest.TestCase):
         found = dict(re.findall(r"const ([A-Z_]+) = ([^;]+);", text))
         numbers = {name: value_of(number) for name, number in found.items()}
         wanted = {
+            "MOST_DATABASE_BYTES": limits.MOST_DATABASE_BYTES,
             "MOST_TIMES": unpacking.MOST_TIMES,
             "FREE_TEXT": unpacking.FREE_TEXT,
             "MEMORY_TIMES": limits.MEMORY_TIMES,

@@ -1,11 +1,9 @@
 // The files that are dropped or chosen.
 
 import { visible } from "../packer/visible.js";
-import { MOST_TIMES, mostUnpacked } from "../limits.js";
+import { MOST_DATABASE_BYTES, MOST_TIMES, mostUnpacked } from "../limits.js";
 
 /** @typedef {import("./types.js").Chosen} Chosen */
-/** The program refuses longer texts, so no more than one byte more is unpacked. */
-const MOST_DATABASE_BYTES = 2_147_483_647;
 const GZIP = [0x1f, 0x8b];
 /** What else files may be compressed by, and how these begin. */
 const OTHERS = [
