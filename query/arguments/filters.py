@@ -12,14 +12,14 @@ from __future__ import annotations
 import argparse
 import os
 import re
-from collections.abc import Callable, Sequence
+from collections.abc import Callable
 from dataclasses import dataclass
 from fnmatch import fnmatchcase
 from typing import TYPE_CHECKING
 
 from query.answers.errors import NoAnswer, nearest, shown
 from query.arguments.label_files import words_in
-from query.arguments.options import Parser
+from query.arguments.options import Parser, between_commas
 from query.texts.contributed import contributed, is_day
 
 if TYPE_CHECKING:
@@ -227,16 +227,11 @@ def filters_of(arguments: argparse.Namespace) -> Filters:
         main=arguments.main,
         mathbox=arguments.mathbox,
         under=arguments.under,
-        like=patterns(arguments.like),
-        unlike=patterns(arguments.unlike),
+        like=tuple(between_commas(arguments.like)),
+        unlike=tuple(between_commas(arguments.unlike)),
         among=tuple(arguments.among),
         not_among=tuple(arguments.not_among),
         contributor=arguments.contributor,
         since=arguments.since,
         until=arguments.until,
     )
-
-
-def patterns(words: Sequence[str]) -> tuple[str, ...]:
-    """The patterns of an option that may be given several times."""
-    return tuple(each for word in words for each in word.split(",") if each)

@@ -3,7 +3,7 @@ axioms they choose."""
 
 import argparse
 import re
-from collections.abc import Container, Iterator
+from collections.abc import Container, Iterable, Iterator
 from itertools import islice
 from typing import Any, NoReturn
 
@@ -206,12 +206,16 @@ def add_limits(parser: Parser) -> None:
     )
 
 
+def between_commas(words: Iterable[str]) -> list[str]:
+    """What the words of an option are that may be given several times, and each time several."""
+    return [each for word in words for each in word.split(",") if each]
+
+
 def options_of(arguments: argparse.Namespace) -> Options:
     """The options among the arguments of a command; those it doesn't take have their default."""
     given = {name: value for name, value in vars(arguments).items() if value not in (None, False)}
     chosen = [name for name in ("only", "all", "essential", "open") if name in given]
-    words = [word for words in given.get("axioms", []) for word in words.split(",") if word]
-    words = [word.removesuffix("*") or word for word in words]
+    words = [word.removesuffix("*") or word for word in between_commas(given.get("axioms", []))]
     return Options(
         only=given.get("only", None if "all" in given else "|-"),
         essential="essential" in given,

@@ -13,6 +13,7 @@ from query.arguments.options import (
     add_choice_of_citations,
     add_database,
     add_only,
+    between_commas,
     options_of,
     positive,
 )
@@ -279,7 +280,7 @@ def kept_in(
 def named_in(graph: Graph, end: int, option: str, words: list[str]) -> frozenset[int]:
     """The theorems that an option names. NoAnswer where one isn't a theorem, or doesn't rest on
     ON."""
-    nodes = [graph.theorem(label) for word in words for label in word.split(",") if label]
+    nodes = [graph.theorem(label) for label in between_commas(words)]
     above = graph.above([end]) if nodes else set()
     for node in nodes:
         if node not in above or node == end:

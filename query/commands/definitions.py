@@ -13,6 +13,7 @@ from query.arguments.options import (
     add_choice_of_citations,
     add_database,
     add_open,
+    between_commas,
     options_of,
 )
 from query.commands import TABLE_FORMATS, Command
@@ -113,11 +114,6 @@ def configure(parser: Parser) -> None:
     add_choice_of_citations(parser)
 
 
-def labels_of(words: list[str]) -> list[str]:
-    """The labels of an option that may be given several times."""
-    return [label for word in words for label in word.split(",") if label]
-
-
 def judged(database: Database, trusted: list[str], equalities: list[str]) -> Definitions:
     """The verdicts on a database. NoAnswer where a label isn't what it should be."""
     for label in trusted:
@@ -150,7 +146,8 @@ def run(context: Context, arguments: argparse.Namespace) -> int:
     if is_list and not has_some:
         context.table(COLUMNS, [], empty)
         return 0
-    trusted, equalities = labels_of(arguments.trust), labels_of(arguments.equality)
+    trusted = between_commas(arguments.trust)
+    equalities = between_commas(arguments.equality)
     found = judged(database, trusted, equalities)
     if arguments.without is not None:
         context.out.write(without(database, found, arguments.without))

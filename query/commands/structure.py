@@ -14,6 +14,7 @@ from query.arguments.options import (
     add_choice_of_axioms,
     add_choice_of_citations,
     add_database,
+    between_commas,
     options_of,
     positive,
 )
@@ -26,7 +27,7 @@ from query.citations.crossing import (
 )
 from query.citations.graph import Graph
 from query.commands import Command
-from query.proofs.lengths import Length, lengths as lengths_of
+from query.proofs.lengths import Length, lengths as lengths_of, written_steps
 from query.reports.choice import Options
 from query.reports.database import Database, Dependence
 from query.texts.assertions import Assertion
@@ -344,7 +345,7 @@ def marks_of(dependence: Dependence, words: Sequence[str]) -> dict[str, bytes]:
     """For each axiom that the words of `--columns` name the marks of its column. NoAnswer where one
     isn't among those chosen, or can't have a column of its name."""
     found: dict[str, bytes] = {}
-    labels = [label for word in words for label in word.split(",") if label]
+    labels = between_commas(words)
     if words and not labels:
         raise NoAnswer("--columns wants an AXIOM")
     for label in labels:
@@ -396,16 +397,6 @@ def configure_discouraged(parser: Parser) -> None:
     add_choice_of_citations(parser)
 
 
-def steps(text: Text, assertion: Assertion) -> int:
-    """How many steps a proof has as it is written. One that is repeated by a mark counts once more,
-    without those that it rests on."""
-    words = text.proof(assertion)
-    if words[:1] != ["("]:
-        return len(words)
-    letters = "".join(words[words.index(")") + 1 :])
-    return sum(1 for letter in letters if "A" <= letter <= "T" or letter == "?")
-
-
 def discouraged_line(row: Sequence[Value]) -> str:
     """A line of set.mm's file `discouraged`."""
     what, label, user, count = row
@@ -430,7 +421,7 @@ def run_discouraged(context: Context, arguments: argparse.Namespace) -> int:
     rows += [["usage", label, None, count] for label, count in counts.items()]
     for one in text.assertions:
         if is_proof_discouraged(text, one):
-            rows.append(["proof", one.label, None, steps(text, one)])
+            rows.append(["proof", one.label, None, written_steps(text, one)])
     if not rows:
         context.tell(f"{database.name}: no comment says that something is discouraged")
     passing = context.passing(rows, 1)

@@ -60,10 +60,7 @@ def change_of(before: Assertion, after: Assertion, differ: str, most: int) -> Ch
 
 def hypotheses(*frames: Frame) -> tuple[str, str]:
     """The `$e` of both."""
-    old, new = (
-        "".join(f"$e {each.formula} $. " for each in frame.hypotheses() if each.kind == "e")
-        for frame in frames
-    )
+    old, new = ("".join(f"$e {each.formula} $. " for each in frame.essential()) for frame in frames)
     return old, new
 
 

@@ -47,7 +47,7 @@ class Needs:
         """The definition of each form that has one."""
         self.under: dict[str, list[str]] = {}
         """For each such form the forms of its definition, as they come in it."""
-        for one, tree in judged.found:
+        for one, tree in judged.read_axioms:
             if is_definition(one) and not isinstance(tree, Broken):
                 self.add(one, tree)
 
@@ -74,7 +74,7 @@ class Needs:
     def forms_of(self, one: Assertion) -> list[str]:
         """The forms of a statement and its `$e`, as they come. NoAnswer where it can't be read."""
         _, variables = read_as(one)
-        given = [each.formula for each in one.frame().hypotheses() if each.kind == "e"]
+        given = [each.formula for each in one.frame().essential()]
         found: dict[str, None] = {}
         for formula in (*given, one.formula):
             typecode, *symbols = formula.split(" ")

@@ -191,7 +191,8 @@ class Definitions:
         """For each form the first axiom that has it, itself or in a `$e`."""
         self.pair: str | None = None
         """A `$d` of an axiom for two variables of another typecode than `setvar`."""
-        self.found: list[tuple[Assertion, Tree | Broken]] = []
+        self.read_axioms: list[tuple[Assertion, Tree | Broken]] = []
+        """All but those of the syntax, each with its tree, or why it has none."""
         for one in progress.counted(axioms, "reading axioms"):
             if not self.is_syntax(one):
                 self.read(one)
@@ -214,7 +215,7 @@ class Definitions:
         self.grammar.add(one.label, one.typecode, symbols, variables)
         self.backward.add(one.label, one.typecode, symbols[::-1], variables)
         frame = one.frame()
-        if any(each.kind == "e" for each in frame.hypotheses()):
+        if frame.essential():
             self.broken.append(Broken("syntax", f"the syntax axiom {one.label} has a $e", True))
         elif next(frame.pairs(), None) is not None:
             self.broken.append(Broken("syntax", f"the syntax axiom {one.label} has a $d", True))
@@ -254,9 +255,9 @@ class Definitions:
             condition = "grammar" if isinstance(why, Twofold) else "read"
             broken = Broken(condition, f"{one.label} can't be read: {why}", True)
             self.broken.append(broken)
-            self.found.append((one, broken))
+            self.read_axioms.append((one, broken))
             return
-        self.found.append((one, trees[0]))
+        self.read_axioms.append((one, trees[0]))
         for tree in trees:
             for form in tree.rules.values():
                 self.first.setdefault(form, one)
@@ -270,10 +271,9 @@ class Definitions:
         """The trees of an axiom and of its `$e`. NotRead where one has none."""
         symbols, variables = read_as(one)
         found = [self.tree(one.typecode, symbols, variables)]
-        for each in one.frame().hypotheses():
-            if each.kind == "e":
-                typecode, *given = each.formula.split(" ")
-                found.append(self.tree(typecode, given, variables))
+        for each in one.frame().essential():
+            typecode, *given = each.formula.split(" ")
+            found.append(self.tree(typecode, given, variables))
         return found
 
     def tree(self, typecode: str, symbols: Sequence[str], variables: Mapping[str, str]) -> Tree:
@@ -296,7 +296,7 @@ class Definitions:
 
     def judge(self, assertions: Sequence[Assertion]) -> None:
         """Judges all definitions."""
-        found = [(one, tree) for one, tree in self.found if is_definition(one)]
+        found = [(one, tree) for one, tree in self.read_axioms if is_definition(one)]
         equations: dict[str, Definition | Broken] = {}
         for one, tree in found:
             try:
@@ -341,7 +341,7 @@ class Definitions:
         rule = tree.rules.get(tree.root)
         if rule is None or rule not in self.equalities.values():
             raise Broken("form", f"it is {self.no_equation()}")
-        if any(each.kind == "e" for each in one.frame().hypotheses()):
+        if one.frame().essential():
             raise Broken("form", "it has a $e")
         left, right = tree.below[tree.root]
         if left not in tree.rules:
@@ -370,7 +370,7 @@ class Definitions:
         such axiom. Theorems that are left open are among them, sound definitions aren't, and what
         is passed over doesn't count."""
         found: dict[str, str] = {}
-        for one in (*(one for one, _ in self.found if not self.is_sound(one.label)), *opened):
+        for one in (*(one for one, _ in self.read_axioms if not self.is_sound(one.label)), *opened):
             left = [] if one.label in passed_over else self.forms_of(one)
             while left:
                 form = left.pop()
@@ -473,7 +473,7 @@ class Definitions:
         """The symbols of all axioms that aren't of the syntax, and the constants of those."""
         constants = (self.grammar.constants(form) for form in self.grammar.shapes)
         found = {symbol for each in constants for symbol in each}
-        return found.union(*(one.formula.split(" ") for one, _ in self.found))
+        return found.union(*(one.formula.split(" ") for one, _ in self.read_axioms))
 
     def primitives(self) -> list[str]:
         """The forms that have no definition, or one that is on trust."""

@@ -126,7 +126,7 @@ def statement(judged: Definitions, one: Assertion) -> Iterator[str]:
         if judged.verdicts[label].sound == YES
     }
     _, variables = read_as(one)
-    given = [each.formula for each in one.frame().hypotheses() if each.kind == "e"]
+    given = [each.formula for each in one.frame().essential()]
     known = {*judged.symbols(), *variables}
     unfolder = Unfolder(by_form, known, MOST_SYMBOLS)
     for formula in (*given, one.formula):

@@ -153,8 +153,7 @@ class Content:
     def hypotheses(self) -> Iterator[Row]:
         """The rows of `hypothesis`."""
         for one in self.text.assertions:
-            given = [each for each in one.frame().hypotheses() if each.kind == "e"]
-            for position, each in enumerate(given, 1):
+            for position, each in enumerate(one.frame().essential(), 1):
                 yield one.number + 1, position, each.label, each.formula
 
     def disjoint(self) -> Iterator[Row]:

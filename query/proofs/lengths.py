@@ -53,6 +53,16 @@ def length_of(bare_text: bytes, one: Assertion) -> tuple[int, int]:
     return len(letters.translate(None, OTHERS)), len(proof)
 
 
+def written_steps(text: Text, assertion: Assertion) -> int:
+    """How many steps one proof has, which may be open. One that is repeated by a mark counts once
+    more, without those that it rests on."""
+    words = text.proof(assertion)
+    if words[:1] != ["("]:
+        return len(words)
+    letters = "".join(words[words.index(")") + 1 :])
+    return sum(1 for letter in letters if "A" <= letter <= "T" or letter == "?")
+
+
 def depths_of(graph: Graph) -> list[int]:
     """For each node how many citations the longest chain from it has, and for a theorem one more
     where it cites nothing; for an axiom 0."""

@@ -36,9 +36,9 @@ class Nodes:
         self.kinds: list[str | None] = []
         self.parts: list[tuple[int, ...] | None] = []  # None for those of a tree, until asked for
         self.whole: list[int] = []  # the tree that a node is, or WHOLE
-        self.links: list[int] = []
+        self.links: list[int] = []  # the node that stands for a node, or itself
         self.trail: list[int] = []  # the nodes that were linked, in order
-        self._of: dict[int, int] = {}
+        self._node_of: dict[int, int] = {}
 
     def add(self, head: int, kind: str | None, parts: tuple[int, ...] | None, whole: int) -> int:
         """Adds a node."""
@@ -51,10 +51,10 @@ class Nodes:
 
     def of(self, tree: int) -> int:
         """The node of a tree."""
-        found = self._of.get(tree)
+        found = self._node_of.get(tree)
         if found is None:
             head, kind = self.trees.heads[tree], self.grammar.typecode(tree)
-            found = self._of[tree] = self.add(head, kind, None, tree)
+            found = self._node_of[tree] = self.add(head, kind, None, tree)
         return found
 
     def unknown(self, kind: str | None) -> int:

@@ -62,6 +62,10 @@ class Frame:
         parts = (part.split(" ", 2) for part in self.given.split(" $")[1:])
         return [Hypothesis(*part) for part in parts]
 
+    def essential(self) -> list[Hypothesis]:
+        """Those of them that are `$e`."""
+        return [each for each in self.hypotheses() if each.kind == "e"]
+
     def pairs(self) -> Iterator[Pair]:
         """The pairs of its variables that must be distinct, each once and its lesser name first; in
         the order in which the variables are declared."""
