@@ -5,7 +5,13 @@ from collections.abc import Iterable
 
 from query.answers.output import Value
 from query.arguments.context import Context
-from query.arguments.options import Parser, add_choice_of_axioms, add_database, options_of
+from query.arguments.options import (
+    Parser,
+    add_choice_of_axioms,
+    add_database,
+    between_commas,
+    options_of,
+)
 from query.citations.graph import Graph
 from query.commands import Command
 from query.formulas.equivalents import Found, Links, Search
@@ -51,8 +57,7 @@ def run(context: Context, arguments: argparse.Namespace) -> int:
     """Answers."""
     database = context.database(arguments.database, options_of(arguments))
     graph = database.graph()
-    words = [label for word in arguments.without for label in word.split(",") if label]
-    others = [label for label in words if label != arguments.axiom]
+    others = [each for each in between_commas(arguments.without) if each != arguments.axiom]
     lost = labels_above(graph, others)
     bound = labels_above(graph, [arguments.axiom]) | lost
     assertions = database.text.assertions

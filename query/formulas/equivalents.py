@@ -97,7 +97,7 @@ class Logic:
             if one.typecode != PROVABLE:
                 continue
             frame = one.frame()
-            given = [each.formula for each in frame.hypotheses() if each.kind == "e"]
+            given = [each.formula for each in frame.essential()]
             if 0 < len(given) < 3 and not frame.disjoint:
                 self.note(one, given, closing, opening)
         for key in closing.keys() & opening.keys():
@@ -208,7 +208,7 @@ class Links:
         self.by_symbol: dict[str, list[Shaped]] = {}
         for one in assertions:
             if one.typecode == PROVABLE and not one.is_open:
-                given = [each.formula for each in one.frame().hypotheses() if each.kind == "e"]
+                given = [each.formula for each in one.frame().essential()]
                 if len(given) < 2:
                     self.add(one, given)
 
