@@ -22,7 +22,7 @@ STEPS, STEPS_OF_SYMBOL = 200_000, 20
 """So many steps, and so many for each symbol of the syntax axioms, are taken at the most. set.mm's
 grammar takes some 6,000."""
 MOST_DEPTH = 100
-"""So many axioms within one another are followed at the most."""
+"""So many axioms within one another are followed at the most: each state has all of them."""
 SHOWN_SYMBOLS = 30
 """A formula is told in a message up to so many symbols."""
 MOST_PARTS = 10_000
