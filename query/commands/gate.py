@@ -234,8 +234,12 @@ def refusal_of(refused: Refused) -> Finding:
     """The finding that the database is refused."""
     # It takes 15 milliseconds, and most databases have no fault.
     from query.proofs.explained import explanations
+    from query.proofs.hints import Hints
 
     said = f"{refused.said()}; {refused.advice}"
+    hint = Hints(refused.source).of(refused)
+    if hint is not None:
+        said = f"{refused.said()}; {hint.advice or refused.advice}; {' '.join(hint.line)}"
     for why in explanations([refused]):
         if why is not None:
             advice = why.advice() or refused.advice

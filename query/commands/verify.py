@@ -2,7 +2,6 @@
 
 import argparse
 from collections.abc import Iterator
-from functools import cached_property
 from typing import TYPE_CHECKING
 
 from query.answers.output import Value
@@ -15,10 +14,11 @@ from query.program.refusals import Refused
 from query.program.source import Source
 from query.reports.database import Database
 from query.texts.includes import misleading
-from query.texts.uncommented import declared_at, leave_open, without_comments
+from query.texts.uncommented import leave_open, without_comments
 
 if TYPE_CHECKING:
     from query.proofs.explanation import Explanation
+    from query.proofs.hints import Hint
 
 PAGE = """
 Tells whether every proof is valid (status 0), or the first fault (status 1) as compilers write it:
@@ -26,7 +26,8 @@ file, line, column, code and statement; what the code means, and what to do. Of 
 proof it says what it cites, which hypothesis wants what and what stands there, or which variables
 aren't distinct; and it shows the steps before. Where a proof ends in another formula than that of
 its theorem, both are shown. Where a proof has a word that it can't cite, the word is shown, and the
-line on which something of this name is declared.
+line on which something of this name is declared. Of a number of a compressed proof that is too
+large it says which one is the largest there.
 
 valid      whether the database is accepted
 axioms     how many axioms of every typecode it has
@@ -34,8 +35,10 @@ theorems   how many theorems it has
 line, column, code, statement, meaning, advice   the fault; the column counts bytes from 1
 proved, wanted   the formula that the proof proves and that of the theorem, for the code E38; what
            stands there and what the hypothesis wants, for E35
-word, declared   the word, and the line on which there is something of this name, for E33
-step, cited   which step is wrong, and the label that it cites, for E34, E35, E36 and E39
+word, declared   the word, and the line on which there is something of this name, for E33; the
+           label, and the line on which it was used before, for E15
+step, cited   which step is wrong, and the label that it cites, for E34, E35, E36 and E39; for E45
+           which step
 hypothesis   the label of the first hypothesis that what stands there doesn't fit, for E35
 distinct   the two variables that must be distinct, for E36
 first, second   what stands for each of them
@@ -98,11 +101,17 @@ def run(context: Context, arguments: argparse.Namespace) -> int:
         return 1
     tell_includes(context, database)
     if context.out.format == "text":
-        context.out.line(f"{database.name}: valid, {axioms} axioms and {theorems} theorems")
+        counted = f"{number_of(axioms, 'axiom')} and {number_of(theorems, 'theorem')}"
+        context.out.line(f"{database.name}: valid, {counted}")
     else:
         row: list[Value] = [True, axioms, theorems]
         context.out.table(COLUMNS, [row + [None] * len(FIELDS)])
     return 0
+
+
+def number_of(count: int, thing: str) -> str:
+    """How many things there are, in words."""
+    return f"{count} {thing}" if count == 1 else f"{count} {thing}s"
 
 
 def tell_includes(context: Context, database: Database) -> None:
@@ -141,67 +150,41 @@ def put_refusals(context: Context, refusals: list[Refused]) -> None:
     # It takes 15 milliseconds, and most databases have no fault.
     from query.proofs.explained import explanations
     from query.proofs.explanation import Explanation
+    from query.proofs.hints import Hints
 
-    words = Words(refusals[0].source)
+    hints = Hints(refusals[0].source)
     known = zip(refusals, explanations(refusals))
     if context.out.format == "text":
         for refusal, why in known:
-            put_lines(context, refusal, words, why or Explanation())
+            put_lines(context, refusal, hints.of(refusal), why or Explanation())
         return
     rows: list[list[Value]] = []
     for refusal, why in known:
         why = why or Explanation()
+        hint = hints.of(refusal)
         row: list[Value] = [refusal.line, refusal.column, refusal.code, refusal.statement() or None]
-        row += [refusal.meaning, why.advice() or refusal.advice]
-        row += [*why.formulas(), *words.of(refusal)]
+        row += [refusal.meaning, advice_on(refusal, hint, why), *why.formulas()]
+        row += [None, None] if hint is None else [hint.word, hint.declared]
         rows.append([False, None, None, *row, *why.fields()])
     context.out.table(COLUMNS, rows)
 
 
-def put_lines(context: Context, refusal: Refused, words: "Words", why: "Explanation") -> None:
+def advice_on(refusal: Refused, hint: "Hint | None", why: "Explanation") -> str:
+    """What to do about a fault: the most particular that is known."""
+    return (hint and hint.advice) or why.advice() or refusal.advice
+
+
+def put_lines(context: Context, refusal: Refused, hint: "Hint | None", why: "Explanation") -> None:
     """Answers with a fault, for a person."""
     at = f"{refusal.source.name}:{refusal.line}:{refusal.column}"
     context.out.line(f"{at}: {refusal.said()}")
-    word, declared = words.of(refusal)
-    if word is not None:
-        where = f"is declared on line {declared}" if declared else "is declared nowhere"
-        context.out.line(f"  the word          {word}, which {where}")
-    context.out.line(f"  what to do        {why.advice() or refusal.advice}")
-    for name, text in why.lines():
+    lines = [("what to do", advice_on(refusal, hint, why)), *why.lines()]
+    for name, text in lines if hint is None else [hint.line, *lines]:
         context.out.line(f"  {name:<16}  {text}")
     name = "the last steps" if why.step is None else "the steps before"
     for line in why.step_lines():
         context.out.line(f"  {name:<16}  {line}")
         name = ""
-
-
-class Words:
-    """The words of proofs of a database that can't be cited."""
-
-    def __init__(self, source: Source) -> None:
-        self.source = source
-        self.known: dict[str, int | None] = {}
-
-    @cached_property
-    def text(self) -> bytes:
-        """The text without its comments, which is made once for all words."""
-        return without_comments(self.source.data)
-
-    def of(self, refusal: Refused) -> tuple[str | None, int | None]:
-        """The word for which a proof is refused, and the line on which something of this name is
-        declared; None where that can't be told."""
-        if refusal.code != "E33" or self.source.is_report():
-            return None, None
-        place = refusal.at()
-        word = self.source.data[place : place + SHOWN_WORD].split(None, 1)[0].decode("latin-1")
-        if word not in self.known:
-            self.known[word] = self.line_of(word)
-        return word, self.known[word]
-
-    def line_of(self, word: str) -> int | None:
-        """The line on which something of this name is declared."""
-        found = declared_at(self.text, word)
-        return None if found is None else self.source.data.count(b"\n", 0, found) + 1
 
 
 COMMANDS = [Command("verify", PAGE, configure, run)]

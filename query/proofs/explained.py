@@ -18,8 +18,9 @@ from query.program import mmdepend
 from query.program.refusals import Refused
 from query.program.source import Source
 from query.proofs.apart import Apart, clashes, missing_from
-from query.proofs.explanation import Explanation, Mismatch
+from query.proofs.explanation import Explanation, Mismatch, Number
 from query.proofs.replay import (
+    MARK,
     Budget,
     Entry,
     Formula,
@@ -39,6 +40,8 @@ from query.texts.uncommented import without_comments
 
 CODES = ("E34", "E35", "E36", "E37", "E38", "E39")
 """The faults of steps, and of the ends of proofs."""
+OF_NUMBERS = "E45"
+"""The fault of a number in a compressed proof that is too large."""
 MOST_SYMBOLS = 1_048_576
 """A formula of a proof that has more is the fault E39."""
 LAST_ENTRIES = 5
@@ -49,11 +52,12 @@ IN_THE_WAY = (LookupError, ValueError, NoAnswer, MemoryError, OSError)
 def explanations(refusals: Sequence[Refused]) -> Iterator[Explanation | None]:
     """Why the proofs of a text are refused, for each of these refusals, which are in file order;
     None where that can't be told."""
-    of_steps = [each for each in refusals if each.code in CODES and not each.source.is_report()]
+    codes = (*CODES, OF_NUMBERS)
+    of_steps = [each for each in refusals if each.code in codes and not each.source.is_report()]
     known = known_of(of_steps) if of_steps else None
     numbers = iter(range(len(of_steps)))
     for refusal in refusals:
-        is_one = known is not None and refusal.code in CODES
+        is_one = known is not None and refusal.code in codes
         yield known.explained(next(numbers)) if known is not None and is_one else None
 
 
@@ -113,7 +117,8 @@ class Known:
         """Why a proof is refused; None where that can't be told."""
         proof = self.proofs[number]
         if proof is None:
-            return Explanation(is_too_long=True)
+            is_of_number = self.codes[number] == OF_NUMBERS
+            return None if is_of_number else Explanation(is_too_long=True)
         try:
             return self._explained(number, proof)
         except IN_THE_WAY:
@@ -124,6 +129,8 @@ class Known:
         apart = Apart(theorem.distinct(), self.outline.variables, self.budget)
         rule = Rule(self.told[theorem.label])
         labels = proof.labels_of(rule)
+        if self.codes[number] == OF_NUMBERS:
+            return of_number(proof, rule)
         replay = Replay(rule, self.rule, self.outline.floating, self.budget)
         begun = Explanation()
         if proof.faulty is not None:
@@ -150,6 +157,14 @@ class Known:
             one = self.told.get(label)
             self.rules[label] = None if one is None else Rule(one)
         return self.rules[label]
+
+
+def of_number(proof: Proof, theorem: Rule) -> Explanation | None:
+    """What is wrong with a number that is too large; None where it isn't."""
+    marks = proof.numbers.count(MARK)
+    found = Number(proof.faulty or 0, len(theorem.given), len(proof.labels), marks)
+    is_too_large = found.number >= found.count
+    return Explanation(proof.count + 1, number=found) if is_too_large else None
 
 
 def at_end(replay: Replay, theorem: Rule) -> tuple[str, Explanation]:

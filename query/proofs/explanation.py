@@ -14,6 +14,7 @@ from itertools import islice
 from query.answers.excerpts import cut, cut_both
 from query.answers.output import Value
 from query.platform import limits
+from query.proofs.letters import letters_of
 from query.proofs.replay import Entry, Formula, Step
 from query.texts.assertions import Hypothesis, Pair
 
@@ -110,12 +111,47 @@ class Clash:
 
 
 @dataclass(frozen=True)
+class Number:
+    """A number of a compressed proof that is too large, from 0, and how many hypotheses, labels in
+    brackets and marks there are for which a number may stand."""
+
+    number: int
+    hypotheses: int
+    labels: int
+    marks: int
+
+    @property
+    def count(self) -> int:
+        """How many numbers may stand there."""
+        return self.hypotheses + self.labels + self.marks
+
+    def line(self, step: int | None) -> Line:
+        """In words."""
+        largest = "there are none"
+        if self.count:
+            largest = f"the largest is {letters_of(self.count - 1)}, {self.count}"
+        parts = (
+            counted(self.hypotheses, "hypothesis", "hypotheses"),
+            counted(self.labels, "label", "labels"),
+            counted(self.marks, "Z", "Z"),
+        )
+        said = f"{letters_of(self.number)} at step {step} is {self.number + 1}; {largest}"
+        return "the number", f"{said}: {', '.join(parts)}"
+
+
+def counted(count: int, one: str, several: str) -> str:
+    """How many things there are, in words."""
+    return f"{count} {one if count == 1 else several}"
+
+
+@dataclass(frozen=True)
 class Explanation:
     """Why a proof is refused. `step` is the number of the faulty step and `cited` its label; None
     where the end is faulty. `last` are the steps before that. `entries` is how many entries the
     stack has, `pushed` which steps pushed the last ones, `taken` how many the step takes. `proved`
     and `says` are what the proof proves and what its theorem says. `size` is how many symbols the
-    formula of the step has. Where `is_too_long`, the steps weren't carried out."""
+    formula of the step has. `number` is that of a step that is too large. Where `is_too_long`, the
+    steps weren't carried out."""
 
     step: int | None = None
     cited: str | None = None
@@ -128,6 +164,7 @@ class Explanation:
     proved: Formula | None = None
     says: Formula | None = None
     size: int | None = None
+    number: Number | None = None
     is_too_long: bool = False
 
     def lines(self, most: int = SHOWN_FORMULA) -> Iterator[Line]:
@@ -145,6 +182,8 @@ class Explanation:
             yield "the theorem says", other
         if self.size is not None:
             yield "its formula", f"has {self.size} symbols"
+        if self.number is not None:
+            yield self.number.line(self.step)
         if self.is_too_long:
             yield "the formulas", "are too long to show"
 

@@ -29,6 +29,8 @@ WORD = re.compile(rb"\S+")
 LETTERS = re.compile(rb"[A-Z\s]*+")
 OTHERS = re.compile(rb"[?$]")
 """What isn't of a step in a normal proof."""
+MOST_LETTERS = 100
+"""Of a number that is shown; those that stand for something have far less."""
 SPREAD = re.compile(rb"(?:[U-Y]\s*)*[A-T]")
 """A number with white space between its letters."""
 
@@ -99,8 +101,13 @@ def proof_before(bare_text: bytes, place: int) -> Proof | None:
         return normal(words, WORD.match(bare_text, place))
     close = words.index(b")")
     labels = [word.decode("latin-1") for word in words[1:close]]
-    found = SPREAD.match(bare_text, place)
-    faulty = None if found is None else numbers_in(found[0].split())[0]
+    found = SPREAD.match(bare_text, place, place + limits.EXPLAINED_PROOF)
+    faulty = None
+    if found is not None:
+        letters = b"".join(found[0].split())
+        if len(letters) > MOST_LETTERS:
+            return None
+        (faulty,) = numbers_in([letters])
     return Proof(True, labels, numbers_in(words[close + 1 :]), faulty)
 
 

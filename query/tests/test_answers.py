@@ -41,6 +41,8 @@ class Answers(World):
         self.assertEqual(
             self.answers("verify", "small.mm"), ["small.mm: valid, 3 axioms and 4 theorems"]
         )
+        self.write("one.mm", "$c a $. b $a a $. t $p a $= b $.\n")
+        self.assertEqual(self.answers("verify", "one.mm"), ["one.mm: valid, 1 axiom and 1 theorem"])
         (row,) = self.query("verify", "small.mm", "--format=json").rows()
         self.assertEqual((row["valid"], row["axioms"], row["theorems"]), (True, 3, 4))
         self.assertIsNone(row["code"])
@@ -91,12 +93,12 @@ class Answers(World):
         path = str(self.folder / self.write("bad.mm", SMALL + bad))
         with (
             mock.patch.dict(os.environ, {"MMDEPEND": world.built_program()}),
-            mock.patch("query.commands.verify.without_comments", wraps=without_comments) as passed,
-            mock.patch("query.commands.verify.declared_at", wraps=declared_at) as searched,
+            mock.patch("query.proofs.hints.without_comments", wraps=without_comments) as passed,
+            mock.patch("query.proofs.hints.declared_at", wraps=declared_at) as searched,
         ):
             rows = asked("verify", path, "--each")
         self.assertEqual([row[5] for row in rows], ["E33"] * 9)
-        self.assertEqual((passed.call_count, searched.call_count), (2, 3))
+        self.assertEqual((passed.call_count, searched.call_count), (1, 3))
 
     def test_verify_tells_both_formulas(self) -> None:
         for old, new, proved, wanted in (

@@ -422,6 +422,88 @@ class Told(Explained):
             self.assertEqual(said.splitlines(), lines, theorem)
 
 
+HYPOTHESIS = """${ e1 $e |- p $. $( e1 $e $) rule $a |- q $.
+$} rule2 $a |- p $."""
+NAMES = (
+    (
+        f"{HYPOTHESIS}\nx $p |- p $= e1 $.",
+        "the word          e1, which is declared on line 9 as a `$e` of rule; its block ends on"
+        " line 10",
+        "correct the label, or put the theorem into that block",
+    ),
+    (
+        "${ ${ $v s $. ws $f wff s $. $}\nx $p |- p $= ws $. $}",
+        "the word          ws, which is declared on line 9 as a `$f`; its block ends on line 9",
+        "correct the label, or put the theorem into that block",
+    ),
+    (
+        "${ x $p |- p $= e1 $.\ne1 $e |- p $. $}",
+        "the word          e1, which is declared on line 10",
+        FAULTS["E33"][1],
+    ),
+    (
+        "x $p |- p $= rule2 $.\n$( rule2 $a $)\n" + HYPOTHESIS,
+        "the word          rule2, which is declared on line 12",
+        FAULTS["E33"][1],
+    ),
+    (
+        "x $p |- p $= ( nowhere ) B $.",
+        "the word          nowhere, which is declared nowhere",
+        "correct the label, or declare what it names in front of the theorem",
+    ),
+    (
+        "x $p |- p $= x $.",
+        "the word          x, which is the label of this theorem, on line 9",
+        "correct the label; no proof can cite its own theorem",
+    ),
+)
+"""Theorems behind a database whose proofs have words that can't be cited, with what is told."""
+NUMBERS = (
+    ("( wi ) AABZCD", "D at step 5 is 4; the largest is C, 3: 1 hypothesis, 1 label, 1 Z"),
+    ("( ) AA\nU $( a comment $) A", "UA at step 3 is 21; the largest is A, 1: 1 hypothesis"),
+    (f"( wi ) {'U' * 9}A", "UUUUUUUUUA at step 1 is 9765621; the largest is B, 2: 1 hypothesis"),
+)
+"""Compressed proofs in which a number is too large, with what is told."""
+
+
+class Named(Explained):
+    """What is told of words that name something else, and of numbers for which there is nothing."""
+
+    HEAD = SMALL.replace("\n", " ") + "\n" * 8
+
+    def test_words_that_a_proof_cannot_cite(self) -> None:
+        for theorem, line, advice in NAMES:
+            wanted = [f"  {line}", f"  what to do        {advice}"]
+            self.assertEqual(self.lines(f"{self.HEAD}{theorem}\n")[1:], wanted, theorem)
+            (row,) = json.loads(self.query("verify", "bad.mm", "--format=json").out)
+            self.assertEqual((row["code"], row["advice"]), ("E33", advice))
+            self.write("old.mm", self.HEAD)
+            told = " ".join(line.split())
+            found = self.query("gate", "old.mm", "bad.mm").lines()[0]
+            self.assertTrue(found.endswith(f"; {advice}; {told} [valid]"), found)
+
+    def test_a_label_that_was_used_before(self) -> None:
+        lines = self.lines(f"{self.HEAD}$( x $a $) y $a wff p $.\nx $a wff p $.\n\nx $a wff q $.")
+        self.assertRegex(lines[0], r"\Abad\.mm:12:1: refused E15 in 'x': ")
+        wanted = "  what to do        rename this statement or the one on line 10"
+        self.assertEqual(lines[1:], ["  the label         x, which is used on line 10", wanted])
+        (row,) = json.loads(self.query("verify", "bad.mm", "--format=json").out)
+        self.assertEqual((row["word"], row["declared"]), ("x", 10))
+
+    def test_numbers_that_are_too_large(self) -> None:
+        for proof, wanted in NUMBERS:
+            lines = self.lines(f"{self.HEAD}x $p wff ( p -> p ) $= {proof} $.\n")
+            self.assertIn(" refused E45 in 'x': ", lines[0])
+            self.assertTrue(lines[2].startswith(f"  the number        {wanted}"), lines)
+        (row,) = json.loads(self.query("verify", "bad.mm", "--format=json").out)
+        self.assertEqual((row["step"], row["cited"]), (1, None))
+        lines = self.lines("$c a $. b $a a $. x $p a $= ( ) A $.")
+        self.assertIn("A at step 1 is 1; there are none: 0 hypotheses, 0 labels, 0 Z", lines[2])
+        for count in (1000, 1_000_000):
+            lines = self.lines(f"{self.HEAD}x $p |- p $= ( wi ) {'U' * count}A $.\n")
+            self.assertEqual(lines[1:], [f"  what to do        {FAULTS['E45'][1]}"])
+
+
 class Outlines(World):
     """The beginning of a text, up to a theorem."""
 
