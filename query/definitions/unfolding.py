@@ -23,7 +23,7 @@ from query.platform import progress
 from query.program.refusals import Refused
 from query.program.source import Source
 from query.proofs.layout import Made, laid_out, letters_in, line_width
-from query.proofs.letters import NUMBER, number_of
+from query.proofs.letters import numbers_of
 from query.reports.database import Database
 from query.texts.assertions import Assertion
 from query.texts.floating import floating_in
@@ -271,7 +271,7 @@ class Without:
             return steps.compressed(stack[-1], mandatory)
         end = words.index(")")
         labels = [*mandatory, *words[1:end]]
-        for number in map(number_of, NUMBER.findall("".join(words[end + 1 :]))):
+        for number in numbers_of("".join(words[end + 1 :])):
             if number < 0:
                 marked.append(stack[-1])
             elif number < len(labels):

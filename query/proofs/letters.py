@@ -19,6 +19,11 @@ def number_of(letters: str) -> int:
     return LASTS * number + ord(letters[-1]) - ord("A")
 
 
+def numbers_of(letters: str) -> list[int]:
+    """The numbers of a compressed proof, in their order."""
+    return [*map(number_of, NUMBER.findall(letters))]
+
+
 def letters_of(number: int) -> str:
     """A number, from 0, in letters."""
     number, last = divmod(number, LASTS)

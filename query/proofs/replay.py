@@ -14,7 +14,7 @@ from dataclasses import dataclass
 from typing import NamedTuple
 
 from query.platform import limits
-from query.proofs.letters import NUMBER, number_of
+from query.proofs.letters import numbers_of
 from query.texts.assertions import Assertion, Frame
 
 Formula = list[str]
@@ -143,7 +143,7 @@ def normal(words: list[bytes], there: re.Match[bytes] | None) -> Proof:
 
 def numbers_in(words: list[bytes]) -> list[int]:
     """The numbers whose letters these words are, which may be apart anywhere."""
-    return [*map(number_of, NUMBER.findall(b"".join(words).decode("latin-1")))]
+    return numbers_of(b"".join(words).decode("latin-1"))
 
 
 class Rule:

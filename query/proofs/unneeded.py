@@ -17,7 +17,7 @@ from typing import NamedTuple
 from query.platform import progress
 from query.platform.parallel import Task, begun, number_at_once
 from query.proofs.lengths import PROOF
-from query.proofs.letters import NUMBER, letters_of, number_of
+from query.proofs.letters import numbers_of
 from query.proofs.replay import MARK, Budget, TooLong
 from query.proofs.text_before import STATEMENT
 from query.texts.assertions import Assertion, Hypothesis, Pair
@@ -302,15 +302,15 @@ def read(given: Sequence[Hypothesis], words: list[str]) -> tuple[list[str], Iter
         return [*number_of_label], map(number_of_label.__getitem__, words)
     close = words.index(")")
     labels = [*(each.label for each in given), *words[1:close]]
-    return labels, map(number_of, NUMBER.findall("".join(words[close + 1 :])))
+    return labels, numbers_of("".join(words[close + 1 :]))
 
 
 def used_of(given: Sequence[Hypothesis], words: list[str]) -> set[str]:
     """The mandatory hypotheses that a proof uses, by labels."""
     if words[0] != "(":
         return {*words}
-    numbers = {*NUMBER.findall("".join(words[words.index(")") + 1 :]))}
-    return {each.label for number, each in enumerate(given) if letters_of(number) in numbers}
+    used = {*numbers_of("".join(words[words.index(")") + 1 :]))}
+    return {each.label for number, each in enumerate(given) if number in used}
 
 
 def pieces(theorems: Sequence[Assertion]) -> Iterator[Sequence[Assertion]]:

@@ -7,7 +7,7 @@ from __future__ import annotations
 from collections.abc import Sequence
 from dataclasses import dataclass, field
 
-from query.proofs.letters import NUMBER, number_of
+from query.proofs.letters import numbers_of
 from query.spare.rules import Rule, Rules, Scope
 
 STEPS, STEPS_OF_LETTER = 100_000, 20
@@ -86,7 +86,7 @@ class Machine:
         """Carries out a compressed proof."""
         meant = [self.meant(label) for label in labels]
         marked: list[int] = []
-        for number in map(number_of, NUMBER.findall(letters)):
+        for number in numbers_of(letters):
             if number < 0:
                 marked.append(self.stack[-1])
             elif number < len(meant):

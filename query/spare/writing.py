@@ -6,7 +6,7 @@ from collections.abc import Iterable, Mapping, Sequence
 from dataclasses import dataclass, field
 
 from query.proofs.layout import Item, Made, letters_in
-from query.proofs.letters import NUMBER, number_of
+from query.proofs.letters import numbers_of
 from query.spare.labels import saved_order
 from query.spare.proofs import Proof, Step
 from query.spare.rules import Rule, Rules
@@ -130,7 +130,7 @@ def named(words: Sequence[str], first: int) -> tuple[list[str], dict[str, int]]:
     end = words.index(")")
     labels = [*words[1:end]]
     uses: dict[str, int] = {}
-    for number in map(number_of, NUMBER.findall("".join(words[end + 1 :]))):
+    for number in numbers_of("".join(words[end + 1 :])):
         if first <= number < first + len(labels):
             label = labels[number - first]
             uses[label] = uses.get(label, 0) + 1
