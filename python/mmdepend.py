@@ -43,8 +43,10 @@ MOST_BYTES = 2_147_483_647
 TOO_LONG = (1, 1, "E00")
 # How memory is taken of which only this process has use. Windows gives no other.
 PRIVATE = {"flags": mmap.MAP_PRIVATE | mmap.MAP_ANONYMOUS} if os.name == "posix" else {}
-# The room that is lent at first, for a byte of the text, and the least of it.
+# What is lent at first for a byte of the text, room, and output with the usage and without; and the
+# least of each. More is lent where that is too small.
 ROOM_FOR_A_BYTE = 6
+OUTPUT_WITH_USAGE, OUTPUT_WITHOUT = 5, 2
 LEAST = 1 << 20
 
 # The statuses of the library that can come.
@@ -223,7 +225,8 @@ def output(texts: list[bytes], request: Request) -> tuple[int, bytes]:
     says what room was too small, if the system gives no more."""
     size = sum(map(len, texts))
     room_size = up_to(ROOM_FOR_A_BYTE * size + LEAST)
-    out_size = up_to((5 if request.sections & USAGE else 2) * size + LEAST)
+    output_for_a_byte = OUTPUT_WITH_USAGE if request.sections & USAGE else OUTPUT_WITHOUT
+    out_size = up_to(output_for_a_byte * size + LEAST)
     too_small = 0
     while True:
         try:

@@ -87,9 +87,9 @@ class MatrixPacker {
 
     /** @param {number} row */
     begin(row) {
-        const { bits, words } = this.dependence;
+        const { bits, rowWords } = this.dependence;
         this.fewest = this.named = 0;
-        for (let word = row * words; word < (row + 1) * words; word++) this.fewest += countBits(bits[word]);
+        for (let word = row * rowWords; word < (row + 1) * rowWords; word++) this.fewest += countBits(bits[word]);
         this.sizes[row] = this.fewest;
     }
 
@@ -99,11 +99,11 @@ class MatrixPacker {
      */
     tryRow(row, candidate) {
         if (candidate < 0 || Math.abs(this.sizes[row] - this.sizes[candidate]) >= this.fewest) return;
-        const { bits, words } = this.dependence;
-        const start = row * words;
-        const other = candidate * words;
+        const { bits, rowWords } = this.dependence;
+        const start = row * rowWords;
+        const other = candidate * rowWords;
         let number = 0;
-        for (let word = 0; word < words && number < this.fewest; word++) {
+        for (let word = 0; word < rowWords && number < this.fewest; word++) {
             number += countBits(bits[start + word] ^ bits[other + word]);
         }
         if (number >= this.fewest) return;
@@ -113,14 +113,14 @@ class MatrixPacker {
 
     /** @param {number} row */
     put(row) {
-        const { bits, words } = this.dependence;
-        const start = row * words;
+        const { bits, rowWords } = this.dependence;
+        const start = row * rowWords;
         this.above.number(this.named);
         this.lengths.number(this.fewest);
         let expected = 0;
-        for (let word = 0; word < words; word++) {
+        for (let word = 0; word < rowWords; word++) {
             let left = bits[start + word];
-            if (this.named > 0) left ^= bits[start + word - this.named * words];
+            if (this.named > 0) left ^= bits[start + word - this.named * rowWords];
             for (; left !== 0; left &= left - 1) {
                 const column = word * 32 + lowestOf(left);
                 this.gaps.number(column - expected);

@@ -148,7 +148,7 @@ export class Comparison {
             const theorem = this.toOld[now.theorems[row]];
             const before = theorem < 0 ? -1 : old.rowOf[theorem];
             if (before < 0) continue;
-            const moved = new Uint32Array(now.words);
+            const moved = new Uint32Array(now.rowWords);
             for (const column of columnsIn(old.row(before))) {
                 const there = columnOf[column];
                 if (there < 0) this.lost[column].push(before);

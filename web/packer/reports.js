@@ -93,8 +93,8 @@ export class Dependence {
         /** Of each assertion its row and its column, or -1. */
         this.rowOf = new Int32Array(text.size).fill(-1);
         this.columnOf = new Int32Array(text.size).fill(-1);
-        /** The rows, `words` numbers of 32 bits each; column c is bit c % 32 of number c / 32. */
-        this.words = 0;
+        /** The rows, `rowWords` numbers of 32 bits each; column c is bit c % 32 of number c / 32. */
+        this.rowWords = 0;
         this.bits = new Uint32Array(0);
         /** The assertions that row r cites, in file order, are `cited` from `starts[r]` to `starts[r + 1]`. */
         this.starts = new Uint32Array(1);
@@ -108,7 +108,7 @@ export class Dependence {
 
     /** @param {number} row */
     row(row) {
-        return this.bits.subarray(row * this.words, (row + 1) * this.words);
+        return this.bits.subarray(row * this.rowWords, (row + 1) * this.rowWords);
     }
 
     /** What each assertion is, for the block `kinds`. */
@@ -126,8 +126,8 @@ export class Dependence {
     /** How many theorems rest on each axiom. */
     users() {
         const users = new Uint32Array(this.axioms.length);
-        for (let start = 0; start < this.bits.length; start += this.words) {
-            for (let word = 0; word < this.words; word++) {
+        for (let start = 0; start < this.bits.length; start += this.rowWords) {
+            for (let word = 0; word < this.rowWords; word++) {
                 const first = 32 * word;
                 for (let bits = this.bits[start + word]; bits !== 0; bits &= bits - 1) users[first + lowestOf(bits)]++;
             }
@@ -214,14 +214,14 @@ class Reader {
         lines.pass("matrix");
         const axioms = found.axioms.length;
         const theorems = found.theorems.length;
-        found.words = Math.ceil(axioms / 32);
-        found.bits = new Uint32Array(theorems * found.words);
+        found.rowWords = Math.ceil(axioms / 32);
+        found.bits = new Uint32Array(theorems * found.rowWords);
         const digits = Math.ceil(axioms / 4);
         const view = new DataView(lines.bytes.buffer, lines.bytes.byteOffset, lines.bytes.length);
         for (let row = 0; row < theorems; row++) {
             this.passLabel(lines, row);
             if (lines.place + digits >= view.byteLength) throw new OddReport("a report is cut off");
-            readDigits(view, lines.place, digits, found.bits, row * found.words);
+            readDigits(view, lines.place, digits, found.bits, row * found.rowWords);
             lines.place += digits;
             lines.passEnd();
         }
@@ -286,15 +286,15 @@ class Reader {
  */
 function withColumns(found, isKept) {
     const axioms = found.axioms.filter(isKept);
-    const made = Object.assign(new Dependence(found.text), found, { axioms, words: Math.ceil(axioms.length / 32) });
+    const made = Object.assign(new Dependence(found.text), found, { axioms, rowWords: Math.ceil(axioms.length / 32) });
     made.columnOf = new Int32Array(found.text.size).fill(-1);
     axioms.forEach((axiom, column) => (made.columnOf[axiom] = column));
-    made.bits = new Uint32Array(found.theorems.length * made.words);
+    made.bits = new Uint32Array(found.theorems.length * made.rowWords);
     const there = Array.from(found.axioms, (axiom) => made.columnOf[axiom]);
     for (let row = 0; row < found.theorems.length; row++) {
         for (const column of columnsIn(found.row(row))) {
             const kept = there[column];
-            if (kept >= 0) made.bits[row * made.words + (kept >>> 5)] |= 1 << (kept & 31);
+            if (kept >= 0) made.bits[row * made.rowWords + (kept >>> 5)] |= 1 << (kept & 31);
         }
     }
     return made;
