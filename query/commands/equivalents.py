@@ -26,23 +26,23 @@ as ax-ac2 does for ax-ac, counts as proved; --without ax-ac2 gives that axiom up
 
 how        equivalent: AX gives it
            stronger: it isn't known that AX gives it; it may even be false
-           proved: it is stated by an assertion that rests on nothing that is given up, so the
-           others give AX; standard error names the first one
+           proved: an assertion states it that rests on nothing that is given up, so the others
+           give AX; label is such an assertion then, and standard error names the first one
 label      an assertion that states it; nothing where there is none
 by         the links from the statement to AX; nothing where it says what AX says
 from       how AX gives it: what states it, or the links from AX to it
+statement  what it says
 rests      the axioms on which all these rest, besides AX; in the form text only with an option that
            chooses axioms
-statement  what it says
 
-Of distinct variables a link may ask no more than AX does. What isn't said by such links isn't
-found.
+Of distinct variables neither a link may ask more than AX does, nor an assertion that states what
+leads to AX. What isn't said by such links isn't found.
 
   $ mmquery equivalents set.mm ax-ac2
   $ mmquery equivalents set.mm ax-ac2 --axioms ax-
   $ mmquery equivalents set.mm ax-ac --without ax-ac2
 """
-COLUMNS = ("how", "label", "by", "from", "rests", "statement")
+COLUMNS = ("how", "label", "by", "from", "statement", "rests")
 
 
 def configure(parser: Parser) -> None:
@@ -82,13 +82,11 @@ def labels_above(graph: Graph, labels: Iterable[str]) -> set[str]:
 def row_of(database: Database, search: Search, found: Found) -> list[Value]:
     """A row of the answer."""
     way, stated = found.way, found.stated
-    how = "stronger" if way is None else "equivalent"
-    if stated is not None and search.links.free[stated.number]:
-        how = "proved"
+    how = "proved" if found.is_proved else "stronger" if way is None else "equivalent"
     label = None if stated is None else stated.label
     given = list(way.labels) if way is not None else []
     rests = rests_of(database, {*found.by, *found.rules, *given}, search.axiom.label)
-    return [how, label, list(found.by), given, rests, found.formula]
+    return [how, label, list(found.by), given, found.formula, rests]
 
 
 def rests_of(database: Database, labels: set[str], axiom: str) -> list[str]:

@@ -72,13 +72,19 @@ class Way:
 class Found:
     """A statement that gives the axiom back by the links `by` and `rules`. `way` is how the axiom
     gives it, None where that isn't known. `stated` is the assertion that is the statement, None
-    where there is none."""
+    where there is none. `is_proved` is whether that one rests on nothing that is given up."""
 
     formula: str
     by: tuple[str, ...]
     rules: frozenset[str]
     way: Way | None
     stated: Assertion | None
+    is_proved: bool
+
+    @property
+    def rank(self) -> tuple[bool, bool]:
+        """The greater, the more is known of it."""
+        return self.is_proved, self.way is not None
 
 
 class Logic:
@@ -360,7 +366,8 @@ class Search:
 
     def found(self) -> Iterator[Found]:
         """The statements that give the axiom back, those by the fewest links first. Of several ways
-        to give it back, or to follow from it, the first one."""
+        to give it back the first one by which the statement is proved; where it is by none, the
+        first one by which the axiom gives it, and else the first one."""
         places = tuple(range(len(self.start.names)))
         seen = {(self.start.key, places)}
         left: deque[tuple[str, tuple[int, ...], tuple[Link, ...]]] = deque()
@@ -369,7 +376,8 @@ class Search:
         while left:
             key, places, by = left.popleft()
             found = self.judged(key, places, by)
-            if found is not None and (key not in best or best[key].way is None):
+            if found is not None and (key not in best or best[key].rank < found.rank):
+                best.pop(key, None)  # so that it comes behind those by fewer links
                 best[key] = found
             for link in self.into.get(key, ()):
                 before = self.places_before(link, places)
@@ -393,13 +401,19 @@ class Search:
         fitting = [way for way in self.ways.get(key, ()) if self.fits(way.pairs, places)]
         lost = [way for way in self.lost.get(key, ()) if self.fits(way.pairs, places)]
         stated = [way for way in fitting if way.stated is not None]
-        one = next((way.stated for way in (*stated, *lost)), None)
-        if not by and one is None:
+        proved = [way for way in stated if self.is_free(way.stated)]
+        one = next((way.stated for way in (*proved, *stated, *lost)), None)
+        if key == self.start.key and one is None:
             return None
-        way = next(iter(stated or fitting), None)
+        way = next(iter(proved or stated or fitting), None)
         formula = by[0].start.formula if one is None else one.formula.partition(" ")[2]
         labels = tuple(link.label for link in by)
-        return Found(formula, labels, self.links.logic.rules_of(by), way, one)
+        rules = self.links.logic.rules_of(by)
+        return Found(formula, labels, rules, way, one, bool(proved))
+
+    def is_free(self, one: Assertion | None) -> bool:
+        """Whether there is such an assertion, and it rests on nothing that is given up."""
+        return one is not None and self.links.free[one.number]
 
     def fits(self, pairs: Pairs, places: Sequence[int]) -> bool:
         """Whether of the axiom's variables no more are asked to be distinct than the axiom does."""

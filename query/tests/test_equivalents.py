@@ -234,6 +234,13 @@ class Chosen:
         self.lines.append(theorem.text(" ".join(labels)))
         self.stated.append(replace_pairs(theorem))
 
+    def other(self, number: int) -> Said:
+        """Another axiom, which often states the axiom, or from what a link leads on."""
+        starts = [each.given or next(steps_of(each)).start for each in self.free]
+        start = self.chance.choice([self.axiom.formula, *starts, *starts])
+        given = ("Bar",) if self.chance.random() < 0.2 else None
+        return self.said(f"o{number}", start, 0.4, given)
+
     def steps(self) -> list[Step]:
         """All links."""
         return [step for said in self.free for step in steps_of(said)]
@@ -387,10 +394,7 @@ class Equivalents(World):
 
     def gives(self, chosen: Chosen, chain: Sequence[Step]) -> bool:
         """Whether a chain gives the axiom, with what it says of distinct variables."""
-        proof = Proof()
-        proof.of(chosen.axiom.formula, chain, Said("new", chain[0].start))
-        own = {*variables(chosen.axiom.formula)}
-        return {pair for pair in proof.needed if pair <= own} <= chosen.axiom.pairs
+        return self.proves(chosen, chain, Said("new", chain[0].start))
 
     def test_by_hand(self) -> None:
         text = (
@@ -400,9 +404,9 @@ class Equivalents(World):
         self.write("db.mm", text)
         lines = self.answers("equivalents", "db.mm", "ax", "--format=tsv", "--axioms=la,ma")
         self.assertEqual(lines[1:], [
-            "equivalent\tta\t\tta\t\tQ y",
-            "equivalent\t\tla\tla\tla\tFoo",
-            "stronger\t\tma la\t\tla ma\tBar",
+            "equivalent\tta\t\tta\tQ y\t",
+            "equivalent\t\tla\tla\tFoo\tla",
+            "stronger\t\tma la\t\tBar\tla ma",
         ])  # fmt: skip
         done = self.query("equivalents", "db.mm", "wal")
         self.assertEqual((done.status, done.out), (2, ""))
@@ -417,9 +421,98 @@ class Equivalents(World):
         text = BASE + "ax $a |- Foo $. be $a |- Bar $. la $a |- ( Bar -> Foo ) $.\n"
         self.write("db.mm", text)
         lines = self.answers("equivalents", "db.mm", "ax", "--format=tsv")
-        self.assertEqual(lines[1:], ["proved\tbe\tla\tbe\tax-mp gen spi be la\tBar"])
+        self.assertEqual(lines[1:], ["proved\tbe\tla\tbe\tBar\tax-mp gen spi be la"])
         done = self.query("equivalents", "db.mm", "ax")
         self.assertEqual(done.err, "mmquery: db.mm: the others give ax, by be\n")
+
+    def test_proved_in_any_order(self) -> None:
+        """A statement that another theorem states, which rests on the axiom, is proved whichever of
+        both comes first."""
+        text = BASE + "ax $a |- Foo $. be $a |- Bar $. la $a |- ( Bar -> Foo ) $.\n"
+        both = ["one $p |- Foo $= ax $.\n", "two $p |- Foo $= wbar wfoo be la ax-mp $.\n"]
+        for lines in (both, both[::-1]):
+            self.write("db.mm", text + "".join(lines))
+            done = self.query("equivalents", "db.mm", "ax", "--format=csv")
+            self.assertEqual(done.err, "mmquery: db.mm: the others give ax, by two\n")
+            found = [line.split(",")[:5] for line in done.lines()[1:]]
+            self.assertEqual(found[0], ["proved", "two", "", "two", "Foo"])
+            self.assertEqual(found[1:], [["proved", "be", "la", "be", "Bar"]])
+            rows = self.rows(text + "".join(lines), "--without", "be")
+            self.assertEqual([row["how"] for row in rows], ["equivalent", "stronger"])
+            self.assertEqual([row["label"] for row in rows], ["one", "be"])
+
+    def test_what_proves_it(self) -> None:
+        """An assertion that asks for more distinct variables, or has a `$e`, doesn't prove it; nor
+        does the axiom itself stand among the answers, from which a link leads to it."""
+        text = BASE + "ax $a |- R x y $. on $p |- R y x $= fy fx ax $.\n"
+        given = "${ more.h $e |- Foo $. more $a |- R x y $. $}\n"
+        distinct = "${ $d x y $. apart $a |- R y x $. $}\n"
+        mathbox = "$( (New usage is discouraged.) $) free $a |- A. z R z x $.\n"
+        for lines, wanted in (
+            (given + distinct, ("equivalent", "on")),
+            (given + distinct + mathbox, ("proved", "free")),
+        ):
+            rows = self.rows(text + lines)
+            told = [(row["how"], row["label"]) for row in rows]
+            self.assertEqual(told, [wanted, ("stronger", None)])
+        apart = BASE + "${ $d x y $. ax $a |- R x y $. $}\n" + distinct
+        self.assertEqual([row["label"] for row in self.rows(apart)], ["apart"])
+        turned = BASE + "ax $a |- R x y $. la $a |- ( R y x -> R x y ) $.\n"
+        self.assertEqual(self.rows(turned), [])
+
+    def test_proved_by_another_chain(self) -> None:
+        """Where an assertion asks for other distinct variables than the axiom does at the end of a
+        short chain, but not at the end of a longer one, it proves the statement by this."""
+        text = BASE + "$c T $. wt $a wff T x y z $.\n${ $d x y $. ax $a |- T x y z $. $}\n"
+        text += "la $a |- ( ( T x y z -> Foo ) -> T x y z ) $.\n"
+        text += "lb $a |- ( ( T y z x -> Foo ) -> ( T x y z -> Foo ) ) $.\n"
+        text += "${ $d x z $. be $a |- ( T x y z -> Foo ) $. $}\n"
+        text += "lc $a |- ( T x y z -> ( T x y z -> Foo ) ) $.\n"
+        rows = self.rows(text)
+        self.assertEqual([(row["how"], row["by"]) for row in rows], [("proved", ["lb", "la"])])
+        rows = self.rows(text, "--without", "be")
+        self.assertEqual([(row["how"], row["by"]) for row in rows], [("equivalent", ["la"])])
+
+    def test_what_is_proved(self) -> None:
+        """Just that is proved which an assertion states from which a chain of at most four links
+        gives the axiom, wherever it stands in the file."""
+        tried = {True: 0, False: 0}
+        for seed in range(60):
+            chosen = Chosen(seed)
+            axiom, lines = key(chosen.axiom.formula), chosen.lines
+            others = [chosen.other(number) for number in range(3)]
+            texts = [each.text() for each in others]
+            steps = [step for each in (*chosen.free, *others) for step in steps_of(each)]
+            told, again = (
+                {key_of(row): row for row in self.rows("".join(text))}
+                for text in ([lines[0], *texts, *lines[1:]], [*lines, *texts])
+            )
+            self.assertEqual(
+                {name for name, row in told.items() if row["how"] == "proved"},
+                {name for name, row in again.items() if row["how"] == "proved"},
+            )
+            for start, row in told.items():
+                ways = [*chains(steps, start, axiom, 4)]
+                proving = {
+                    each.label
+                    for each in others
+                    if each.given is None and key(each.formula) == start
+                    if any(self.proves(chosen, chain, each) for chain in ways)
+                }
+                if proving or len(labels_in(row["by"])) < 5:
+                    self.assertEqual(row["how"] == "proved", bool(proving), (seed, row))
+                    tried[bool(proving)] += 1
+                if len(labels_in(row["by"])) < 5 and proving:
+                    self.assertIn(row["label"], proving)
+        self.assertGreater(min(tried.values()), 15, tried)
+
+    def proves(self, chosen: Chosen, chain: Sequence[Step], stated: Said) -> bool:
+        """Whether a chain from an assertion gives the axiom, with what both say of distinct
+        variables."""
+        proof = Proof()
+        proof.of(chosen.axiom.formula, chain, stated)
+        own = {*variables(chosen.axiom.formula)}
+        return {pair for pair in proof.needed if pair <= own} <= chosen.axiom.pairs
 
     def test_another_axiom_is_given_up(self) -> None:
         """What another axiom states counts as proved, until that is given up too: then the answers
@@ -462,7 +555,7 @@ class Equivalents(World):
             ),
         ):
             lines = self.answers("equivalents", "db.mm", "ax", "--format=tsv", *words)
-            told = ["\t".join(line.split("\t")[:4] + line.split("\t")[5:]) for line in lines[1:]]
+            told = ["\t".join(line.split("\t")[:5]) for line in lines[1:]]
             self.assertEqual(told, wanted)
         self.refuses("equivalents", "db.mm", "ax", "--without=no", why="nor an axiom 'no'")
 
