@@ -81,7 +81,9 @@ proofs without it and all other proofs stay; the THEOREMs are among them.
 freed    how many theorems it frees by itself, itself included
 theorem  the label of the theorem
 
-Without a THEOREM, the theorems that free most so, each by itself.
+Without a THEOREM, the theorems that free most so, each by itself. The best of them may be
+statements that need ON in truth: they may say it in another form. --keep T leaves such a one as it
+is.
 
 With --plan N, the N theorems to prove one after the other, so that each frees most beside what
 those before it have freed:

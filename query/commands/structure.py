@@ -128,6 +128,9 @@ label  A
 by     B
 count  how many theorems cite A, or how many steps the proof has as it is written
 
+The filters go by A, what is discouraged, and not by B, what cites it. So the filter --mathbox NAME
+goes by A: with it only the lines of what stands in NAME's mathbox.
+
   $ mmquery discouraged set.mm
 """
 
