@@ -3,12 +3,13 @@ status.
 
 0: answered. 1: the answer to a check is no. 2: no answer, with one line why. 130, 143: ended by a
 signal. An option may stand before or after the words, `--` ends the options, and an option that a
-command doesn't have is named with the nearest one that it has.
+command doesn't have is named with other commands that have it, or the nearest one that it has.
 """
 
 import argparse
 import gc
 import os
+from contextlib import suppress
 from typing import NoReturn
 
 from query.answers.errors import NoAnswer, reason, shown, tell
@@ -23,6 +24,8 @@ from query.platform.limits import Limits
 VERSION = "mmquery 0.1.0\n"
 FORMS: dict[int | str | None, str] = {None: "{}", "+": "{}..", "*": "[{}..]", "?": "[{}]"}
 """How a word is written in a usage line, by how many of it are taken."""
+MOST_HAVING = 3
+"""So many commands are named that have an option which another one doesn't have."""
 
 
 def usage_line(parser: Parser, name: str) -> str:
@@ -59,6 +62,22 @@ def parser_of(chosen: Command) -> Parser:
     return parser
 
 
+def having(option: str) -> str:
+    """Which commands have an option, as the end of a sentence; "" where none has it. All modules of
+    commands are read for that."""
+    found: list[str] = []
+    for name in names():
+        with suppress(ImportError):
+            if option in parser_of(command(name)).options():
+                found.append(f"`{name}`")
+    if not found:
+        return ""
+    more = len(found) > MOST_HAVING
+    listed = [*found[:MOST_HAVING], "others"] if more else found
+    said = " and ".join(filter(None, (", ".join(listed[:-1]), listed[-1])))
+    return f"; {said} {'have' if len(listed) > 1 else 'has'} it"
+
+
 def page_of(chosen: Command) -> str:
     """The page of a command."""
     parser = parser_of(chosen)
@@ -75,7 +94,8 @@ def help_page() -> str:
     lines += [
         "",
         "DATABASE is a file, also one compressed by gzip, bzip2 or xz; - for standard input;",
-        "REV:PATH, a file of a revision in git; or a report of mmdepend.",
+        "REV:PATH, a file of a revision in git, of the repository of the working folder; or",
+        "a report of mmdepend.",
         "`mmquery COMMAND --help` tells what a command answers, with its options and an example.",
         "",
         "Status 0: answered. 1: the answer to a check is no. 2: no answer, with the reason.",
@@ -103,6 +123,7 @@ def run(words: list[str]) -> int:
         write_all(1, page_of(chosen).encode())
         return 0
     parser = parser_of(chosen)
+    parser.elsewhere = having
     arguments = parser.read(words[1:])
     see_order(parser, arguments)
     out = Output(getattr(arguments, "format", "text"))

@@ -12,6 +12,9 @@ ALL_COMPARED_WORDS, MOST_COMPARED_WORDS = 500, 20_000
 most so many."""
 NEAR_WORD, NEAR_LABEL = 0.5, 0.8  # by difflib's ratio, at least; labels are alike by themselves
 
+SHORTEST_SWAPPED, LONGEST_SWAPPED = 3, 200
+"""Of words of so many signs those are near in which two are swapped."""
+
 
 class NoAnswer(Exception):
     """There is no answer, status 2."""
@@ -47,13 +50,15 @@ def quiet(text: str) -> str:
 
 def nearest(word: str, known: Iterable[str], cutoff: float = NEAR_WORD) -> str:
     """Which of the known words is meant, as the end of a sentence; empty where none is near. One
-    that differs in capital letters alone is nearest. Of many words only those are compared that
-    begin alike."""
+    that differs in capital letters alone is nearest, and next one in which two signs beside each
+    other are swapped. Of many words only those are compared that begin alike."""
     # It takes a millisecond, and is for words that aren't known.
     import difflib
 
     words = list(known)
     alike = next((each for each in words if each.lower() == word.lower()), None)
+    swapped = with_two_swapped(word)
+    alike = alike or next((each for each in words if each in swapped), None)
     if alike is not None:
         words = [alike]
         cutoff = 0
@@ -61,6 +66,15 @@ def nearest(word: str, known: Iterable[str], cutoff: float = NEAR_WORD) -> str:
         words = [each for each in words if each[:1] == word[:1] and abs(len(each) - len(word)) < 4]
     near = difflib.get_close_matches(word, words[:MOST_COMPARED_WORDS], n=1, cutoff=cutoff)
     return f"; did you mean {shown(near[0])}?" if near else ""
+
+
+def with_two_swapped(word: str) -> set[str]:
+    """The words that differ from one in two signs beside each other, which are swapped. Of very
+    short words none, since these are alike by chance, and of very long ones."""
+    if not SHORTEST_SWAPPED <= len(word) <= LONGEST_SWAPPED:
+        return set()
+    places = range(len(word) - 1)
+    return {word[:at] + word[at + 1] + word[at] + word[at + 2 :] for at in places} - {word}
 
 
 def escaped(number: int) -> str:

@@ -3,7 +3,7 @@ axioms they choose."""
 
 import argparse
 import re
-from collections.abc import Container, Iterable, Iterator
+from collections.abc import Callable, Container, Iterable, Iterator
 from itertools import islice
 from typing import Any, NoReturn
 
@@ -26,6 +26,8 @@ class Parser(argparse.ArgumentParser):
         super().__init__(add_help=False, formatter_class=layout)
         self.actions: list[argparse.Action] = []
         self.apart: list[tuple[str, ...]] = []
+        self.elsewhere: Callable[[str], str] = lambda name: ""
+        """Which other commands have an option, as the end of a sentence; "" where none has it."""
 
     def add_argument(self, *names: str, **settings: Any) -> argparse.Action:
         """As in argparse. `group` is one of its groups, under which the page is to have it."""
@@ -96,13 +98,17 @@ class Parser(argparse.ArgumentParser):
 
     def instead_of(self, name: str) -> str:
         """What may be meant by an option that there isn't, as the end of a sentence: a word that
-        stands without an option, or the nearest option, by what is behind its dashes."""
+        stands without an option, another command that has it, or the nearest option, by what is
+        behind its dashes."""
         bare = name.lstrip("-")
         for action in self.actions:
             if not action.option_strings and bare.upper() in re.findall(
                 r"\w+", str(action.metavar)
             ):
                 return f"; {bare.upper()} stands without an option"
+        elsewhere = self.elsewhere(name)
+        if elsewhere:
+            return elsewhere
         known = [each[2:] for each in self.options() if each.startswith("--")]
         return nearest(bare, known, NEAR_OPTION).replace("mean ", "mean --")
 
@@ -119,6 +125,8 @@ class Parser(argparse.ArgumentParser):
             wrong = f"the following arguments are required: {', '.join(lacking)}"
         elif share.end() < len(plain):
             wrong = f"unrecognized arguments: {' '.join(plain[share.end():])}"
+            if "--like" in self.options():
+                wrong += f"; `--like {plain[share.end()]}` chooses labels"
         else:
             spans = [share.span(group) for group in range(1, len(wanted) + 1)]
             shared = [(each, plain[slice(*span)]) for each, span in zip(wanted, spans)]

@@ -93,11 +93,15 @@ class Graph:
         self.see(label)
         return self.index[label]
 
-    def theorem(self, label: str) -> int:
-        """The node of a theorem. NoAnswer where there is none of this label."""
+    def theorem(self, label: str, on: int | None = None, order: str = "") -> int:
+        """The node of a theorem. NoAnswer where there is none of this label; where an axiom has it
+        and what is asked for `on` is a theorem, it says in which order they stand."""
         node = self.node(label)
         if not self.is_theorem(node):
-            raise NoAnswer(f"{self.name}: '{label}' is an axiom, where a theorem is wanted")
+            besides = f"; {order}" if on is not None and self.is_theorem(on) else ""
+            raise NoAnswer(
+                f"{self.name}: '{label}' is an axiom, where a theorem is wanted{besides}"
+            )
         return node
 
     def axiom(self, label: str) -> int:

@@ -110,8 +110,8 @@ def chosen_part(graph: Graph, arguments: argparse.Namespace) -> Part:
             if getattr(arguments, option) is not None:
                 raise NoAnswer(f"--{option} is about the graph of a THEOREM, so it wants one")
         return subgraphs.whole(graph)
-    start = graph.theorem(arguments.theorem)
     end = None if arguments.on is None else graph.node(arguments.on)
+    start = graph.theorem(arguments.theorem, end, "THEOREM comes first, and ON behind it")
     nodes = graph.below([start])
     if end is not None:
         nodes &= graph.above([end])

@@ -10,9 +10,9 @@ from query.answers.output import Value
 from query.arguments.context import Context
 from query.arguments.options import Parser, add_choice_of_citations, add_database, options_of
 from query.commands import Command
-from query.git.history import Revision, nothing_in, range_of, revisions
+from query.git.history import Range, Revision, nothing_in, range_of, revisions
 from query.git.objects import Objects
-from query.git.repository import repository_with
+from query.git.repository import Repository, repository_with
 from query.platform import progress, secret
 from query.program import mmdepend
 from query.program.source import is_of_git
@@ -84,7 +84,7 @@ def run(context: Context, arguments: argparse.Namespace) -> int:
     if theorem is not None and not axioms:
         raise NoAnswer("history --of wants at least one AXIOM")
     repository = repository_with(word)
-    path, within = repository.path_of(word), range_of(arguments.range, repository)
+    path, within = repository.path_of(word), range_in(arguments, repository)
     question = Question(options_of(arguments), context.uses_cache, tuple(axioms), theorem)
     mmdepend.ready()
     if context.uses_cache:
@@ -109,6 +109,17 @@ def run(context: Context, arguments: argparse.Namespace) -> int:
     else:
         context.out.table(COLUMNS_OF, turns(known, axioms, theorem))
     return 0
+
+
+def range_in(arguments: argparse.Namespace, repository: Repository) -> Range:
+    """The revisions that are asked for. NoAnswer where one isn't there, which says where REV..REV
+    stands if another word may be meant by it."""
+    try:
+        return range_of(arguments.range, repository)
+    except NoAnswer as why:
+        if ".." in arguments.range or not all(".." in each for each in arguments.axiom[:1]):
+            raise
+        raise NoAnswer(f"{why.sentence()}; REV..REV comes before the AXIOM") from None
 
 
 def see_labels(known: Known, question: Question, name: str) -> None:

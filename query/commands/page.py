@@ -4,7 +4,7 @@ program for Node makes it."""
 import argparse
 import os
 
-from query.answers.errors import NoAnswer
+from query.answers.errors import NoAnswer, shown
 from query.arguments.context import Context
 from query.arguments.options import Parser, add_choice_of_citations, add_database
 from query.commands import Command
@@ -78,7 +78,11 @@ def packer() -> str:
     for path in (os.path.join(HOME, SCRIPT), os.path.join(HOME, "out", "web", SCRIPT)):
         if os.path.exists(path):
             return path
-    raise NoAnswer(f"there is no {SCRIPT}, which makes pages; web/build makes it")
+    if os.path.exists(os.path.join(HOME, "web", "build")):
+        why = "in this clone `web/build` makes it, and each package has it (docs/INSTALL.md)"
+    else:
+        why = f"each package has it beside mmquery, in {HOME}; install yours anew"
+    raise NoAnswer(f"there is no {SCRIPT}, which makes pages: {shown(why)}")
 
 
 def made_page(databases: list[Database], words: list[str]) -> bytes:

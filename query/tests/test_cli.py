@@ -9,6 +9,7 @@ import lzma
 import shutil
 import unittest
 
+from query.answers.errors import NEAR_LABEL, nearest
 from query.commands import OTHER_NAMES, command, instead_of, names, summaries
 from query.tests.commands import WHOLE, WORDS, words_of
 from query.tests.world import HOSTILE, MMQUERY, SMALL, Done, World, invented
@@ -94,6 +95,40 @@ class CommandLine(World):
         self.refuses("top", "small.mm", "0", why="'0' is no number")
         self.refuses("top", "small.mm", "two", why="'two' is no number")
         self.refuses("rests", "--only", "wff", "--all", "small.mm", "a2", why="--all")
+
+    def test_two_signs_that_are_swapped(self) -> None:
+        """They are near however short a word is, but for the shortest."""
+        for words in (("rests", "small.mm"), ("graph", "small.mm", "wi2"), ("steps", "small.mm")):
+            self.refuses(*words, "iw2", why="'iw2'; did you mean wi2?")
+        self.refuses("rests", "small.mm", "2a", why="'2a'\n")
+        labels = [f"z{number}" for number in range(50_000)] + ["zorn", "ozrn", "ax-1"]
+        self.assertEqual(nearest("zron", labels, NEAR_LABEL), "; did you mean zorn?")
+        self.assertEqual(nearest("oznr", labels, NEAR_LABEL), "; did you mean ozrn?")
+        self.assertEqual(nearest("nroz", labels, NEAR_LABEL), "")
+        self.assertEqual(nearest("ab", ["ba"], NEAR_LABEL), "")
+        self.assertEqual(nearest("aab", ["aab" * 200], NEAR_LABEL), "")
+
+    def test_an_option_of_another_command(self) -> None:
+        for words, why in {
+            ("rests", "--plan", "3", "small.mm", "a2"): "no option --plan; `frees` has it\n",
+            ("uncited", "small.mm", "--count"): "no option --count; `falls` has it\n",
+            ("rests", "small.mm", "a2", "--by=x"): "; `chapters` and `proofs` have it\n",
+            ("verify", "small.mm", "--like=x"): "; `rests`, `falls`, `cites` and others have it\n",
+        }.items():
+            self.refuses(*words, why=why)
+
+    def test_a_label_where_filters_choose(self) -> None:
+        for name in ("repeats", "unneeded", "discouraged", "order"):
+            why = "unrecognized arguments: a2; `--like a2` chooses labels; usage: mmquery "
+            self.refuses(name, "small.mm", "a2", why=why + name)
+        self.refuses("verify", "small.mm", "a2", why="unrecognized arguments: a2; usage: mmquery")
+
+    def test_an_axiom_where_a_theorem_is_wanted(self) -> None:
+        why = "'ax-1' is an axiom, where a theorem is wanted"
+        order = "THEOREM comes first, and ON behind it"
+        self.refuses("graph", "small.mm", "ax-1", "a2", why=f"{why}; {order}\n")
+        self.refuses("graph", "small.mm", "ax-1", "ax-mp", why=f"{why}\n")
+        self.refuses("graph", "small.mm", "ax-1", why=f"{why}\n")
 
     def test_what_stands_without_an_option(self) -> None:
         self.refuses("top", "small.mm", "--least", why="no option --least\n")

@@ -109,7 +109,11 @@ class Revisions(History):
         self.refuses("history", *OF_AC, "--of", "x", why="has a theorem 'x'")
         self.refuses("history", *OF_AC, "--of", "ax-1", why="has a theorem 'ax-1'")
         self.refuses("history", "db.mm", "HEAD", "--of", "zorn", why="wants at least one AXIOM")
-        self.refuses("history", "db.mm", "none..HEAD", why="git has no revision 'none'")
+        self.refuses("history", "db.mm", "none..HEAD", why="git has no revision 'none'\n")
+        order = "git has no revision 'ax'; REV..REV comes before the AXIOM\n"
+        self.refuses("history", "db.mm", "ax", why=order)
+        self.refuses("history", "db.mm", "ax", "HEAD..HEAD", why=order)
+        self.refuses("history", "db.mm", "ax", "ax-1", why="git has no revision 'ax'\n")
         self.refuses("history", "db.mm", "HEAD~1...HEAD", why="REV..REV has two dots")
         self.refuses("history", "-", "HEAD", why="the path of a file")
         self.refuses("history", "HEAD:db.mm", "HEAD", why="the path of a file")

@@ -8,7 +8,10 @@ import shutil
 import unittest
 from pathlib import Path
 from typing import Any
+from unittest import mock
 
+from query.answers.errors import NoAnswer
+from query.commands import page
 from query.tests.repositories import Repositories
 from query.tests.world import PROGRAM_FOR_NODE, SMALL, World, database_text, invented, program
 from tests.browser import databases
@@ -16,6 +19,24 @@ from tests.shared.blocks import Blocks, blocks_in, lines_in
 
 TYPESET = databases.EVIL + databases.EVIL_TYPESETTING
 FORBIDDEN = ("innerHTML", "outerHTML", "insertAdjacentHTML", "document.write", "eval(", "Function(")
+
+
+class Packer(World):
+    """The program that makes pages."""
+
+    def test_where_there_is_none(self) -> None:
+        """What to do is said for a clone, and for a package."""
+        for name, wanted in (
+            ("web/build", "in this clone `web/build` makes it, and each package has it"),
+            ("other", "each package has it beside mmquery, in {}; install yours anew"),
+        ):
+            home = self.folder / name.replace("/", "-")
+            (home / name).parent.mkdir(parents=True)
+            (home / name).touch()
+            with mock.patch.object(page, "HOME", str(home)):
+                with self.assertRaises(NoAnswer) as raised:
+                    page.packer()
+            self.assertIn(": " + wanted.format(home), raised.exception.sentence())
 
 
 @unittest.skipUnless(PROGRAM_FOR_NODE.exists(), "web/build wasn't run")
