@@ -311,7 +311,7 @@ def run_way_out(context: Context, arguments: argparse.Namespace) -> int:
     labels = graph.labels
     kept = kept_in(context, arguments, database, end)
     if len(arguments.labels) == 2:
-        start = graph.theorem(arguments.labels[0])
+        start = graph.theorem(arguments.labels[0], end, "THEOREM comes first, and ON behind it")
         found = cuts.way_out(graph, start, end, kept)
         rows = [
             [labels[start], word, labels[node], labels[cited]]
@@ -366,7 +366,9 @@ def run_frees(context: Context, arguments: argparse.Namespace) -> int:
     says_more = arguments.keep_wrappers or database.is_report
     asked = Asked(graph, end, kept, given, None if says_more else database.text)
     if arguments.theorems:
-        put_freed(context, asked, {graph.theorem(label) for label in arguments.theorems})
+        order = "ON comes first, and THEOREMs behind it"
+        again = {graph.theorem(label, end, order) for label in arguments.theorems}
+        put_freed(context, asked, again)
     elif arguments.plan is not None:
         put_plan(context, asked, arguments.plan)
     else:

@@ -127,6 +127,10 @@ class CommandLine(World):
         why = "'ax-1' is an axiom, where a theorem is wanted"
         order = "THEOREM comes first, and ON behind it"
         self.refuses("graph", "small.mm", "ax-1", "a2", why=f"{why}; {order}\n")
+        self.refuses("way-out", "small.mm", "ax-1", "a2", why=f"{why}; {order}\n")
+        order = "ON comes first, and THEOREMs behind it"
+        self.refuses("frees", "small.mm", "a2", "a1i", "ax-1", why=f"{why}; {order}\n")
+        self.refuses("frees", "small.mm", "ax-mp", "ax-1", why=f"{why}\n")
         self.refuses("graph", "small.mm", "ax-1", "ax-mp", why=f"{why}\n")
         self.refuses("graph", "small.mm", "ax-1", why=f"{why}\n")
 
