@@ -355,9 +355,10 @@ class Search:
                 ways.setdefault(key, []).append(way)
 
     def follow(self, link: Link) -> None:
-        """Notes that the end of a link follows, since its start does."""
+        """Notes that the end of a link follows, since its start does: by the way to this that asks
+        for the fewest distinct variables, of several the first one."""
         ways = self.ways.setdefault(link.end.key, [])
-        before = self.ways[link.start.key][0]
+        before = min(self.ways[link.start.key], key=lambda way: len(way.pairs))
         if len(ways) < MOST_WAYS and link.end.key != self.start.key:
             names = link.start.names
             asked = {frozenset(names[number] for number in pair) for pair in before.pairs}

@@ -473,6 +473,26 @@ class Equivalents(World):
         rows = self.rows(text, "--without", "be")
         self.assertEqual([(row["how"], row["by"]) for row in rows], [("equivalent", ["la"])])
 
+    def test_what_asks_for_less(self) -> None:
+        """Of two theorems that state the same, links go on from the one that asks for fewer
+        distinct variables, whichever comes first."""
+        text = BASE + "ax $a |- ( Q x -> Q y ) $. la $a |- ( R x y -> ( Q x -> Q y ) ) $.\n"
+        text += "lb $a |- ( R x y -> ( Q x -> R x y ) ) $.\n"
+        text += "lc $a |- ( ( Q x -> R x y ) -> ( Q x -> Q y ) ) $.\n"
+        text += (
+            "${ ra.1 $e |- ( Q x -> Q y ) $. ra.2 $e |- ( Q x -> Q y ) $. ra $a |- R x y $. $}\n"
+        )
+        proof = "$p |- R x y $= fx fy fx fy ax fx fy ax ra $. $}\n"
+        both = [f"${{ one {proof}", f"${{ $d x y $. two {proof}"]
+        for lines in (both, both[::-1]):
+            told = [
+                (row["how"], row["by"], row["from"]) for row in self.rows(text + "".join(lines))
+            ]
+            self.assertEqual(
+                told,
+                [("equivalent", ["la"], ["one"]), ("equivalent", ["lc"], ["one", "lb"])],
+            )
+
     def test_what_is_proved(self) -> None:
         """Just that is proved which an assertion states from which a chain of at most four links
         gives the axiom, wherever it stands in the file."""
@@ -487,6 +507,8 @@ class Equivalents(World):
                 {key_of(row): row for row in self.rows("".join(text))}
                 for text in ([lines[0], *texts, *lines[1:]], [*lines, *texts])
             )
+            lengths = [len(labels_in(row["by"])) for row in told.values()]
+            self.assertEqual(lengths, sorted(lengths))
             self.assertEqual(
                 {name for name, row in told.items() if row["how"] == "proved"},
                 {name for name, row in again.items() if row["how"] == "proved"},
@@ -564,9 +586,7 @@ class Equivalents(World):
         """What set.mm proves to be the axiom of choice: the table of its theorem `dfac`-s."""
         path = str(DATABASES / "set.mm")
         rows = self.query("equivalents", path, "ax-ac2", "--format=json").rows()
-        first = {
-            labels_in(row["by"])[0] for row in rows if row["how"] == "equivalent" and row["by"]
-        }
+        first = {labels_in(row["by"])[0] for row in rows if row["how"] != "stronger" and row["by"]}
         self.assertLessEqual(
             {"dfackm", "df-ac", "dfac3", "dfac4", "dfac5", "dfac8", "dfac9", "dfac10", "dfac12",
              "dfac13", "dfac14", "dfac21", "dfacbasgrp", "dfacfin7", "ttac"},
@@ -574,6 +594,18 @@ class Equivalents(World):
         )  # fmt: skip
         stronger = {str(row["statement"]) for row in rows if row["how"] == "stronger"}
         self.assertIn("GCH = _V", stronger)
+
+    @unittest.skipUnless((DATABASES / "set.mm").exists(), "there is no set.mm")
+    def test_what_groth_proves(self) -> None:
+        """What ax-groth proves is proved, also where other theorems state it by the axiom."""
+        path = str(DATABASES / "set.mm")
+        for words, wanted in (
+            (("ax-ac2", "--without=ax-ac"), ("proved", "grothac", "dom card = _V")),
+            (("ax-pow",), ("proved", "grothpw")),
+        ):
+            rows = self.query("equivalents", path, *words, "--format=json").rows()
+            told = [(row["how"], row["label"], row["statement"])[: len(wanted)] for row in rows]
+            self.assertIn(wanted, told)
 
 
 if __name__ == "__main__":
