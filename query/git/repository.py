@@ -334,7 +334,7 @@ def link_within(folder: Path) -> Path | None:
         links += 1
         if links > MOST_LINKS:
             raise NoAnswer(f"{shown(str(folder))}: there are too many links on the way")
-        target = Path(os.readlink(here))
+        target = here.readlink()
         parts = target.parts
         here = Path(target.anchor) if target.is_absolute() else here.parent
         left += reversed(parts[1:] if target.is_absolute() else parts)
