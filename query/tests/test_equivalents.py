@@ -462,16 +462,24 @@ class Equivalents(World):
 
     def test_proved_by_another_chain(self) -> None:
         """Where an assertion asks for other distinct variables than the axiom does at the end of a
-        short chain, but not at the end of a longer one, it proves the statement by this."""
+        short chain, but not at the end of a longer one, it proves the statement by this, behind
+        what has a short one."""
         text = BASE + "$c T $. wt $a wff T x y z $.\n${ $d x y $. ax $a |- T x y z $. $}\n"
         text += "la $a |- ( ( T x y z -> Foo ) -> T x y z ) $.\n"
         text += "lb $a |- ( ( T y z x -> Foo ) -> ( T x y z -> Foo ) ) $.\n"
         text += "${ $d x z $. be $a |- ( T x y z -> Foo ) $. $}\n"
         text += "lc $a |- ( T x y z -> ( T x y z -> Foo ) ) $.\n"
+        text += "ld $a |- ( Bar -> T x y z ) $.\n"
         rows = self.rows(text)
-        self.assertEqual([(row["how"], row["by"]) for row in rows], [("proved", ["lb", "la"])])
+        self.assertEqual(
+            [(row["how"], row["by"]) for row in rows],
+            [("stronger", ["ld"]), ("proved", ["lb", "la"])],
+        )
         rows = self.rows(text, "--without", "be")
-        self.assertEqual([(row["how"], row["by"]) for row in rows], [("equivalent", ["la"])])
+        self.assertEqual(
+            [(row["how"], row["by"]) for row in rows],
+            [("equivalent", ["la"]), ("stronger", ["ld"])],
+        )
 
     def test_what_asks_for_less(self) -> None:
         """Of two theorems that state the same, links go on from the one that asks for fewer
