@@ -140,7 +140,11 @@ class Completions(World):
             self.assertEqual(done.lines(), wanted, f"{words}: {done.err}")
 
 
-BETTER = {"E36": "use another variable in place of x on one side: no `$d` helps there"}
+BETTER = {
+    "E15": "rename this statement or the one on line 1",
+    "E33": "correct the label, or declare what it names in front of the theorem",
+    "E36": "use another variable in place of x on one side: no `$d` helps there",
+}
 """What is advised of the examples where it is known what is lacking."""
 
 
