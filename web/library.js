@@ -18,10 +18,10 @@ const PLAIN = { only: null, report: "all", form: 1, essential: false, open: fals
 /** The names of sections, and `all`. */
 export const PARTS = /** @type {(keyof typeof BITS)[]} */ (Object.keys(BITS));
 /** The memory of a module grows by pages, up to 2^16 of them. */
-const MEMORY_PAGE = 65536;
+export const MEMORY_PAGE = 65536;
 const MOST_PAGES = 65536;
 /** The module is lent memory in units of so many bytes, and from a multiple of them on, as `mmdepend.h` says. */
-const UNIT = 16;
+export const UNIT = 16;
 /**
  * How many bytes of output are tried first for each byte of the text, by the sections and in both forms: a bit more than
  * those of set.mm have.

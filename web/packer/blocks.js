@@ -59,7 +59,7 @@ function countBits(bits) {
     return Math.imul((number + (number >>> 4)) & 0x0f0f0f0f, 0x01010101) >>> 24;
 }
 
-/** Packs the rows of a matrix, each as what differs from an earlier row that is named. */
+/** Packs the rows of a matrix, each as what differs from an earlier row, and how far above it that is. */
 class MatrixPacker {
     /** @param {Dependence} dependence */
     constructor(dependence) {
@@ -71,7 +71,7 @@ class MatrixPacker {
         this.gaps = new Writer();
         /** The row from which the fewest columns differ, how many these are, and how far above it is; 0 is none. */
         this.fewest = 0;
-        this.named = 0;
+        this.distance = 0;
     }
 
     pack() {
@@ -88,7 +88,7 @@ class MatrixPacker {
     /** @param {number} row */
     begin(row) {
         const { bits, rowWords } = this.dependence;
-        this.fewest = this.named = 0;
+        this.fewest = this.distance = 0;
         for (let word = row * rowWords; word < (row + 1) * rowWords; word++) this.fewest += countBits(bits[word]);
         this.sizes[row] = this.fewest;
     }
@@ -108,19 +108,19 @@ class MatrixPacker {
         }
         if (number >= this.fewest) return;
         this.fewest = number;
-        this.named = row - candidate;
+        this.distance = row - candidate;
     }
 
     /** @param {number} row */
     put(row) {
         const { bits, rowWords } = this.dependence;
         const start = row * rowWords;
-        this.above.number(this.named);
+        this.above.number(this.distance);
         this.lengths.number(this.fewest);
         let expected = 0;
         for (let word = 0; word < rowWords; word++) {
             let left = bits[start + word];
-            if (this.named > 0) left ^= bits[start + word - this.named * rowWords];
+            if (this.distance > 0) left ^= bits[start + word - this.distance * rowWords];
             for (; left !== 0; left &= left - 1) {
                 const column = word * 32 + lowestOf(left);
                 this.gaps.number(column - expected);

@@ -35,8 +35,8 @@ export class Conditions {
         this.ordered = new Uint32Array(0);
         this.ranks = new Uint32Array(0);
         /** The mandatory variables of an assertion in that order, and of each variable its place among its kind. */
-        this.turns = new Numbers();
-        this.turnOf = new Uint32Array(0);
+        this.inOrder = new Numbers();
+        this.placeOf = new Uint32Array(0);
         this.groups = new Groups();
     }
 
@@ -48,7 +48,7 @@ export class Conditions {
         // A variable that is none of any assertion has no `$f` here, and is told last.
         this.ranks = new Uint32Array(vocabulary.size).fill(this.ordered.length);
         this.ordered.forEach((variable, at) => (this.ranks[variable] = at));
-        this.turnOf = new Uint32Array(vocabulary.size);
+        this.placeOf = new Uint32Array(vocabulary.size);
         const writer = new Writer();
         for (let number = 0; number < text.size; number++) {
             if (number > 0) writer.push(Byte.newline);
@@ -156,27 +156,27 @@ export class Conditions {
      * @param {Writer} writer
      */
     putGroups(writer) {
-        const { pairs, turns, turnOf } = this;
-        this.takeTurns();
-        for (let at = 0; at < pairs.size; at++) pairs.items[at] = turnOf[pairs.items[at]];
+        const { pairs, inOrder, placeOf } = this;
+        this.putInOrder();
+        for (let at = 0; at < pairs.size; at++) pairs.items[at] = placeOf[pairs.items[at]];
         let isFirst = true;
-        this.groups.cover(turns.size, pairs, (group) => {
+        this.groups.cover(inOrder.size, pairs, (group) => {
             if (!isFirst) writer.push(Byte.dollar);
             isFirst = false;
-            this.putList(writer, group.map((turn) => turns.items[turn]));
+            this.putList(writer, group.map((place) => inOrder.items[place]));
         });
     }
 
     /** Puts the mandatory variables in order. */
-    takeTurns() {
-        const { mandatory, turns, turnOf, ranks, ordered } = this;
-        turns.size = 0;
-        for (let at = 0; at < mandatory.size; at++) turns.push(ranks[mandatory.items[at]]);
-        const items = turns.items.subarray(0, turns.size).sort();
-        for (let turn = 0; turn < items.length; turn++) {
-            const variable = ordered[items[turn]];
-            items[turn] = variable;
-            turnOf[variable] = turn;
+    putInOrder() {
+        const { mandatory, inOrder, placeOf, ranks, ordered } = this;
+        inOrder.size = 0;
+        for (let at = 0; at < mandatory.size; at++) inOrder.push(ranks[mandatory.items[at]]);
+        const items = inOrder.items.subarray(0, inOrder.size).sort();
+        for (let place = 0; place < items.length; place++) {
+            const variable = ordered[items[place]];
+            items[place] = variable;
+            placeOf[variable] = place;
         }
     }
 
@@ -185,13 +185,13 @@ export class Conditions {
      * @param {Writer} writer
      */
     putStars(writer) {
-        const { dummies, dummyPairs, ranks, turnOf } = this;
+        const { dummies, dummyPairs, ranks, placeOf } = this;
         /** @type {Map<number, number[]>} */
         const others = new Map(Array.from(dummies.taken(), (dummy) => [dummy, []]));
         // Dummy variables that are told last stand in their own order.
-        for (let at = 0; at < dummies.size; at++) turnOf[dummies.items[at]] = at;
+        for (let at = 0; at < dummies.size; at++) placeOf[dummies.items[at]] = at;
         const compare = (/** @type {number} */ one, /** @type {number} */ other) =>
-            ranks[one] - ranks[other] || turnOf[one] - turnOf[other];
+            ranks[one] - ranks[other] || placeOf[one] - placeOf[other];
         for (let at = 0; at < dummyPairs.size; at += 2) {
             const one = dummyPairs.items[at];
             const other = dummyPairs.items[at + 1];

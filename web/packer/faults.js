@@ -1,4 +1,5 @@
-// Where a text is refused: the line with the fault's place, and the statement that has it.
+// Where a text is refused: the line with the fault's place, and the statement that has it. `mmquery` says the same of a
+// statement by query/program/refusals.py, by another algorithm; tests/repository/test_faults.py compares the two.
 
 import { Byte, closeOf, isComment, textAt } from "./bytes.js";
 import { visible } from "./visible.js";

@@ -55,11 +55,11 @@ class Kinds {
     /** @param {Text} text */
     constructor(text) {
         this.cutter = new Cutter();
-        const { source, given } = text;
+        const { source, allFloating } = text;
         this.codes = new Words(source);
-        this.floating = new Uint8Array(given.size);
-        for (let number = 0; number < given.size; number++) {
-            this.cutter.cut(source, given.formulas.items[number], given.formulaEnds.items[number]);
+        this.floating = new Uint8Array(allFloating.size);
+        for (let number = 0; number < allFloating.size; number++) {
+            this.cutter.cut(source, allFloating.formulas.items[number], allFloating.formulaEnds.items[number]);
             const code = this.codes.add(this.cutter.starts[0], this.cutter.ends[0]);
             this.floating[number] = kindOf(code);
         }
@@ -87,12 +87,12 @@ class Kinds {
 /** The mandatory hypotheses of assertions, in which `$f` have the numbers of those of the database. */
 class Frames {
     /** @param {Text} text */
-    constructor({ data, named, givenByLabel, frames }) {
+    constructor({ data, toldFloating, allFloatingByLabel, frames }) {
         this.frames = frames;
-        const numbers = new Uint32Array(named.size);
-        for (let at = 0; at < named.size; at++) {
-            const number = givenByLabel.find(data, named.labels.items[at], named.labelEnds.items[at]);
-            if (number < 0) throw new UnreadableText(named.labels.items[at]);
+        const numbers = new Uint32Array(toldFloating.size);
+        for (let at = 0; at < toldFloating.size; at++) {
+            const number = allFloatingByLabel.find(data, toldFloating.labels.items[at], toldFloating.labelEnds.items[at]);
+            if (number < 0) throw new UnreadableText(toldFloating.labels.items[at]);
             numbers[at] = number;
         }
         /** The items of one assertion after the other. */
@@ -124,7 +124,7 @@ class Frequent {
      * @param {Kinds} kinds
      */
     constructor({ text, cited }, frames, kinds) {
-        const floating = new Uint32Array(text.given.size);
+        const floating = new Uint32Array(text.allFloating.size);
         const assertions = new Uint32Array(text.size);
         for (let at = 0; at < cited.length; at++) assertions[cited[at]]++;
         for (let at = 0; at < frames.items.length; at++) {
@@ -141,7 +141,7 @@ class Frequent {
             return found.slice(0, FREQUENT).map(([label]) => label);
         });
         /** Of each item its code, or 0. */
-        this.codes = new Uint8Array(otherItem(Math.max(text.size, text.given.size)) + 1);
+        this.codes = new Uint8Array(otherItem(Math.max(text.size, text.allFloating.size)) + 1);
         for (const labels of this.labels) labels.forEach((label, at) => (this.codes[label] = Code.frequent + at));
     }
 
@@ -411,7 +411,7 @@ export class ProofPacker {
         const assertion = text.byLabel.find(source, start, end);
         if (assertion >= 0) this.addAssertion(assertion);
         else {
-            const floating = text.givenByLabel.find(source, start, end);
+            const floating = text.allFloatingByLabel.find(source, start, end);
             if (floating >= 0) this.addLabel(kinds.floating[floating], floatingItem(floating));
             else this.addHypothesis(otherItem(text.hypothesesByLabel.find(source, start, end)));
         }
@@ -468,13 +468,13 @@ function proofIn(data, place) {
  * The `$f` as lines: label, typecode and variable.
  * @param {Text} text
  */
-function packFloating({ source, given }) {
+function packFloating({ source, allFloating }) {
     const writer = new Writer();
-    for (let number = 0; number < given.size; number++) {
+    for (let number = 0; number < allFloating.size; number++) {
         if (number > 0) writer.push(Byte.newline);
-        writer.stretch(source, given.labels.items[number], given.labelEnds.items[number]);
+        writer.stretch(source, allFloating.labels.items[number], allFloating.labelEnds.items[number]);
         writer.push(Byte.space);
-        writer.words(source, given.formulas.items[number], given.formulaEnds.items[number]);
+        writer.words(source, allFloating.formulas.items[number], allFloating.formulaEnds.items[number]);
     }
     return writer.taken();
 }

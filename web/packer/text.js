@@ -92,21 +92,20 @@ export class Text {
         this.places = new Numbers();
         this.ends = new Numbers();
         /**
-         * The `$e` and the `$f` that are mandatory for some assertion, each once, in the order of the lines that name
-         * them; of each assertion its `$e`.
+         * The `$e` that are mandatory for some assertion, each once, in the order of the lines that tell them; their
+         * numbers by their labels; and of each assertion its `$e`.
          */
         this.hypotheses = new Statements();
-        this.floating = new Statements();
-        this.essential = new Lists();
-        /** The `$e` by their labels. */
         this.hypothesesByLabel = new Words(data);
-        /** The `$f` in the order of the lines that name them. */
-        this.named = new Statements();
-        /** The mandatory hypotheses of each assertion in order, as items of `$f` of `named` and of `$e`. */
+        this.essential = new Lists();
+        /** The `$f` that are mandatory for some assertion, in the order of the lines; and in one that agrees with each. */
+        this.toldFloating = new Statements();
+        this.floating = new Statements();
+        /** The mandatory hypotheses of each assertion in order, as items of `$f` of `toldFloating` and of `$e`. */
         this.frames = new Lists();
         /** All `$f` of the database, by their places there, and their numbers by their labels. */
-        this.given = new Statements();
-        this.givenByLabel = new Words(source);
+        this.allFloating = new Statements();
+        this.allFloatingByLabel = new Words(source);
         /** Of each assertion the pairs of variables that must be distinct, each behind a `$d`. */
         this.pairs = new Stretches();
         /** Of each theorem its dummy variables, and the pairs of which one is a dummy. */
@@ -222,7 +221,7 @@ class Order {
 }
 
 /** The order of the parts of a line. */
-const Part = { given: 0, pairs: 1, dummies: 2, dummyPairs: 3 };
+const Part = { hypotheses: 0, pairs: 1, dummies: 2, dummyPairs: 3 };
 const PART_COUNT = 4;
 
 /** Reads the lines of the section. */
@@ -232,9 +231,9 @@ class Section {
         this.text = text;
         this.bytes = text.data;
         this.place = sectionIn(text.data);
-        this.floating = new Words(text.data);
+        this.toldFloatingByLabel = new Words(text.data);
         this.order = new Order();
-        /** Where each part of a line but the given ones begins and ends; 0 and 0 where there is none. */
+        /** Where each part of a line but the hypotheses begins and ends; 0 and 0 where there is none. */
         this.starts = new Uint32Array(PART_COUNT);
         this.ends = new Uint32Array(PART_COUNT);
     }
@@ -251,7 +250,7 @@ class Section {
             this.place = end + 1;
         }
         text.sectionEnd = this.place;
-        text.floating = inOrder(text.named, this.order);
+        text.floating = inOrder(text.toldFloating, this.order);
     }
 
     /**
@@ -314,7 +313,7 @@ class Section {
      */
     readParts(end, last) {
         const { text, bytes } = this;
-        let stage = Part.given;
+        let stage = Part.hypotheses;
         const { starts, ends } = this;
         starts.fill(0);
         ends.fill(0);
@@ -337,7 +336,7 @@ class Section {
                 return first;
             }
             stage = part;
-            if (part === Part.given) this.addGiven(letter, first, next);
+            if (part === Part.hypotheses) this.addHypothesis(letter, first, next);
             else {
                 if (part === Part.dummies) starts[part] = first;
                 else if (ends[part] === 0) starts[part] = keyword;
@@ -363,14 +362,14 @@ class Section {
      * @param {number} first
      * @param {number} end
      */
-    addGiven(letter, first, end) {
+    addHypothesis(letter, first, end) {
         const { text, bytes } = this;
         let labelEnd = first;
         while (labelEnd < end && bytes[labelEnd] !== Byte.space) labelEnd++;
         if (labelEnd === end) throw new UnreadableText(first);
         const isEssential = letter === Sign.e;
-        const statements = isEssential ? text.hypotheses : text.named;
-        const number = (isEssential ? text.hypothesesByLabel : this.floating).add(first, labelEnd);
+        const statements = isEssential ? text.hypotheses : text.toldFloating;
+        const number = (isEssential ? text.hypothesesByLabel : this.toldFloatingByLabel).add(first, labelEnd);
         if (number === statements.size) statements.push(first, labelEnd, labelEnd + 1, end);
         text.frames.push(isEssential ? otherItem(number) : floatingItem(number));
         if (isEssential) text.essential.push(number);
@@ -397,7 +396,7 @@ function inOrder({ labels, labelEnds, formulas, formulaEnds }, order) {
  * @param {number} stage
  */
 function partOf(letter, stage) {
-    if (letter === Sign.f || letter === Sign.e) return Part.given;
+    if (letter === Sign.f || letter === Sign.e) return Part.hypotheses;
     if (letter === Sign.v) return stage < Part.dummies ? Part.dummies : -1;
     if (letter !== Sign.d) return -1;
     return stage < Part.dummies ? Part.pairs : Part.dummyPairs;
@@ -489,8 +488,8 @@ class Gaps {
         while (close >= 0 && close < end && data[close + 1] === Byte.open) {
             close = data.indexOf(Byte.dollar, afterComment(data, close));
         }
-        const number = text.givenByLabel.add(label, labelEnd);
-        if (number === text.given.size) text.given.push(label, labelEnd, formula, close);
+        const number = text.allFloatingByLabel.add(label, labelEnd);
+        if (number === text.allFloating.size) text.allFloating.push(label, labelEnd, formula, close);
     }
 
     /**

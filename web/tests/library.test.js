@@ -2,13 +2,12 @@
 
 import assert from "node:assert/strict";
 import { test } from "node:test";
-import { report } from "../library.js";
+import { MEMORY_PAGE, UNIT, report } from "../library.js";
+import { Status } from "../statuses.js";
 
 /** @typedef {import("../node/types.js").Request} Request */
 
 const MEGABYTE = 1 << 20;
-const TOO_SHORT = 3;
-const TOO_SMALL = 4;
 
 /**
  * Runs a module that needs this room and output.
@@ -19,7 +18,7 @@ async function ran({ size, room, output, most, fails = Infinity, request = {} })
     const memory = new WebAssembly.Memory({ initial: 1 });
     const grow = memory.grow.bind(memory);
     memory.grow = (pages) => {
-        if (memory.buffer.byteLength + pages * 65536 > fails) throw new RangeError("there is no more");
+        if (memory.buffer.byteLength + pages * MEMORY_PAGE > fails) throw new RangeError("there is no more");
         return grow(pages);
     };
     /** @type {{ room: number, output: number }[]} */
@@ -28,10 +27,10 @@ async function ran({ size, room, output, most, fails = Infinity, request = {} })
     const call = (...words) => {
         const [written, , , , , , , , , , , lent, length] = words.map(Number);
         const numbers = new BigUint64Array(memory.buffer, written, 3);
-        calls.push({ room: 16 * Number(numbers[1]), output: lent });
-        if (16 * Number(numbers[1]) < room) return TOO_SMALL;
+        calls.push({ room: UNIT * Number(numbers[1]), output: lent });
+        if (UNIT * Number(numbers[1]) < room) return Status.noMemory;
         new BigUint64Array(memory.buffer, length, 1)[0] = BigInt(output);
-        return lent < output ? TOO_SHORT : 0;
+        return lent < output ? Status.outTooShort : Status.accepted;
     };
     const { instantiate } = WebAssembly;
     const instance = { exports: { memory, mmdepend_report: call } };
@@ -55,7 +54,7 @@ test("a text whose room is eight times as long fits, though the output might hav
 
 test("all that there is is lent at last, and no more", async () => {
     const free = LARGE.most - LARGE.size;
-    const fits = await ran({ ...LARGE, room: free - 5 * 65536, output: 1000 });
+    const fits = await ran({ ...LARGE, room: free - 5 * MEMORY_PAGE, output: 1000 });
     assert.equal(fits.answer.status, 0);
     const { answer, calls } = await ran({ ...LARGE, room: free, output: 1000 });
     assert.deepEqual([answer.status, answer.report.length], [4, 0]);

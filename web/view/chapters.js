@@ -2,6 +2,10 @@
 
 /** @typedef {import("./types.js").Chapter} Chapter */
 
+/** How many chapters make the bands of a picture at least, and into how many lists of theorems are cut, where there are as many. */
+const LEAST_BANDS = 3;
+const LEAST_IN_LISTS = 40;
+
 /** The headings of the file, in file order. */
 export class Chapters {
     /**
@@ -27,8 +31,9 @@ export class Chapters {
             open.push(chapter);
         }
         this.size = size;
-        this.bandLevel = this.levelWith(3);
-        this.listLevel = this.levelWith(40);
+        /** The level whose chapters are bands beside the picture, and that by whose chapters lists of theorems are cut. */
+        this.bandLevel = this.levelWith(LEAST_BANDS);
+        this.listLevel = this.levelWith(LEAST_IN_LISTS);
     }
 
     /**

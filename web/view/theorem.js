@@ -65,6 +65,7 @@ export class TheoremView {
     }
 
     /**
+     * Draws the axioms of a group from the left to the right, with a bar for each that is marked.
      * @param {HTMLCanvasElement} strip
      * @param {number} group
      * @param {number[]} marked
@@ -80,7 +81,8 @@ export class TheoremView {
             if (!isMarked.has(column)) return;
             const from = Math.floor((index * strip.width) / columns.length);
             const to = Math.floor(((index + 1) * strip.width) / columns.length);
-            pen.fillRect(from, 0, Math.max(1, to - from - (to - from > 3 ? 1 : 0)), strip.height);
+            const gap = to - from > 3 ? 1 : 0; // between bars that are wide enough for one
+            pen.fillRect(from, 0, Math.max(1, to - from - gap), strip.height);
         });
     }
 
