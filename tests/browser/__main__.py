@@ -20,7 +20,7 @@ import sys
 import tempfile
 from pathlib import Path
 
-from tests.browser import browsers, interface, proofs, views, whole
+from tests.browser import browsers, figures, hostile, interface, proofs, views
 from tests.browser.browsers import Browser
 from tests.browser.truth import Truth, metamath_conditions
 from tests.browser.views import Shown
@@ -61,9 +61,9 @@ class Pages:
         database = DEBIAN_DATABASES / f"{name}.mm"
         page = self.folder / f"{name}.html"
         if name not in self.made:
-            took = whole.make_page(database, page)
+            took = hostile.make_page(database, page)
             self.made[name] = (page, Truth(database), took)
-            figure(f"bytes of the page of {name}.mm", page.stat().st_size, whole.MOST_PAGE_BYTES)
+            figure(f"bytes of the page of {name}.mm", page.stat().st_size, figures.MOST_PAGE_BYTES)
         page, truth, took = self.made[name]
         assert truth is not None
         return page, truth, took
@@ -71,15 +71,15 @@ class Pages:
 
 def try_hostile(browser: Browser, folder: Path) -> None:
     """Databases that are written for this test."""
-    page = whole.check_hostile(browser, folder, [], False)
-    whole.check_hostile(browser, folder, [], True)
+    page = hostile.check_hostile(browser, folder, [], False)
+    hostile.check_hostile(browser, folder, [], True)
     for words in (["--only", "|-"], ["--only", "|-", "--open", "--essential"]):
-        whole.check_hostile(browser, folder, words, False)
-    whole.check_policy(browser, page)
-    whole.check_corners(browser, folder)
-    whole.check_misleading(browser, folder)
-    whole.check_failing(browser, folder)
-    whole.check_against(browser, folder)
+        hostile.check_hostile(browser, folder, words, False)
+    hostile.check_policy(browser, page)
+    hostile.check_corners(browser, folder)
+    hostile.check_misleading(browser, folder)
+    hostile.check_failing(browser, folder)
+    hostile.check_against(browser, folder)
 
 
 def try_database(browser: Browser, pages: Pages, name: str, rng: random.Random) -> None:
@@ -87,8 +87,8 @@ def try_database(browser: Browser, pages: Pages, name: str, rng: random.Random) 
     page, truth, _ = pages.page(name)
     options = pages.options
     is_large = name == "set"
-    theorems = whole.some(rng, truth.theorems, options.theorems if is_large else 30)
-    axioms = whole.some(rng, truth.columns, options.axioms if is_large else 10)
+    theorems = views.some(rng, truth.theorems, options.theorems if is_large else 30)
+    axioms = views.some(rng, truth.columns, options.axioms if is_large else 10)
     browser.open(page)
     shown = Shown(browser, truth)
     views.check_sample(shown, theorems, axioms, rng)
@@ -170,7 +170,7 @@ def main() -> None:
         pages = Pages(folder, options)
         is_partial = options.measure or options.database is not None
         if not is_partial:
-            whole.check_refusals(folder)
+            hostile.check_refusals(folder)
         for at, kind in enumerate(kinds):
             browser = kind()
             stack.callback(browser.close)
@@ -184,7 +184,7 @@ def main() -> None:
                 page, _, took = pages.page("set")
                 if not options.measure:
                     try_set(browser, pages)
-                whole.measure(browser, page, took if at == 0 else None)
+                figures.measure(browser, page, took if at == 0 else None)
     checks.end()
 
 

@@ -16,6 +16,7 @@ PROGRAM = os.environ.get("MMDEPEND") or str(HERE / "mmdepend")
 COMMENT = re.compile(r"(?<!\S)\$\((?=\s).*?(?<=\s)\$\)(?!\S)", re.S)
 STATEMENT = re.compile(r"\$\{|\$\}|(?<!\S)(\S+)\s+\$([eapf])\s([^$]*)(?:\$=([^$]*))?\$\.")
 KEPT_TAGS = re.compile(r"</?(?:span|font|i|em|b|strong|u|sub|sup|small|big)(?:\s[^<>]*)?>", re.I)
+MOST_SPACE = 400  # bytes between a comment and the label behind it, in each database that is tried
 PAIR = tuple[str, str]
 
 
@@ -143,7 +144,8 @@ class Truth:
         ends = {match.end(): match for match in COMMENT.finditer(self.raw)}
         for label, place in self.places.items():
             while True:
-                end = len(self.raw[max(0, place - 400) : place].rstrip()) + max(0, place - 400)
+                start = max(0, place - MOST_SPACE)
+                end = start + len(self.raw[start:place].rstrip())
                 match = ends.get(end)
                 if match is None:
                     break

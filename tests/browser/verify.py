@@ -1,4 +1,15 @@
-"""Runs the tests of the page that verifies, for web/verifier/in-browsers."""
+"""Tries mmdepend.html in Chromium, in Firefox, and in WebKitGTK where that is installed.
+
+Usage: python3 -m tests.browser.verify [MODULE] [--small | --measure] [--only BROWSER] [--seed N]
+                                       [--theorems N] [--axioms N] [--keep FOLDER]
+
+MODULE is the file of the program's core in WebAssembly; without it, answers of the program stand
+for it. Files are dropped and chosen, refused, cancelled and compared; the blocks that the page
+makes are compared with those of `mmquery page`, and what it shows of 300 theorems and 50 axioms of
+set.mm with the program's reports. --small leaves set.mm out; --measure takes only the figures. The
+program is `mmdepend`, or what the variable MMDEPEND names. The last line is `N passed, M
+failed`; the status is 1 after a failure, and 2 where a browser or a database isn't here.
+"""
 
 import argparse
 import contextlib
@@ -10,7 +21,7 @@ import sys
 import tempfile
 from pathlib import Path
 
-from tests.browser import browsers, verifying, whole
+from tests.browser import browsers, verifying, views
 from tests.browser.browsers import Browser, WebKit
 from tests.browser.truth import PROGRAM
 from tests.browser.verifying import Files
@@ -19,12 +30,10 @@ from tests.shared.checks import checks
 from tests.shared.samples import DEBIAN_DATABASES
 
 
-def options_of(told: str) -> argparse.Namespace:
+def options_of() -> argparse.Namespace:
     """The words of the command line."""
     form = argparse.RawDescriptionHelpFormatter
-    parser = argparse.ArgumentParser(
-        "web/verifier/in-browsers", description=told, formatter_class=form
-    )
+    parser = argparse.ArgumentParser(description=__doc__, formatter_class=form)
     parser.add_argument("module", metavar="MODULE", nargs="?", type=Path)
     parser.add_argument("--small", action="store_true")
     parser.add_argument("--measure", action="store_true")
@@ -61,15 +70,15 @@ def try_browser(browser: Browser, files: Files, options: argparse.Namespace, see
         truth = verifying.check_database(browser, files, name)
         if truth is not None:
             is_large = name == "set"
-            theorems = whole.some(rng, truth.theorems, options.theorems if is_large else 20)
-            axioms = whole.some(rng, truth.columns, options.axioms if is_large else 10)
+            theorems = views.some(rng, truth.theorems, options.theorems if is_large else 20)
+            axioms = views.some(rng, truth.columns, options.axioms if is_large else 10)
             check_sample(Shown(browser, truth), theorems, axioms, rng)
         print(f"{browser.name} {name}: {checks.passed} passed so far", flush=True)
 
 
-def main(told: str) -> None:
+def main() -> None:
     """Runs the tests."""
-    options = options_of(told)
+    options = options_of()
     lacking = missing()
     if lacking:
         print(f"check: {lacking}", file=sys.stderr)
@@ -101,3 +110,7 @@ def main(told: str) -> None:
         if options.module and options.only in (None, "chromium"):
             verifying.check_little_memory(files)
     checks.end()
+
+
+if __name__ == "__main__":
+    main()

@@ -25,7 +25,7 @@ from tests.browser.interface import LEAST_CONTRAST
 from tests.browser.scripts import CONTRAST, GATHER, NAMES, TARGETS
 from tests.browser.truth import HERE, PROGRAM, Truth
 from tests.browser.views import Shown
-from tests.browser.whole import Asked, run
+from tests.browser.hostile import Asked, run
 from tests.shared.blocks import blocks_in
 from tests.shared.checks import check, figure, same
 from tests.shared.samples import DEBIAN_DATABASES

@@ -231,3 +231,8 @@ def check_colours(browser: Browser, page: Path, label: str, truth: Truth) -> Non
         code = truth.variables.get(symbol)
         if code in HUES:
             check(f"look-{HUES[code]}" in look.split(), f"{browser.name}: colour of {symbol}", look)
+
+
+def some(rng: random.Random, labels: list[str], most: int) -> list[str]:
+    """Some of the labels, without order."""
+    return rng.sample(labels, min(most, len(labels)))
