@@ -1,8 +1,24 @@
 """metamath.exe, with which tests compare. It is in Debian's package metamath."""
 
+import argparse
+import shutil
 import subprocess
 from collections.abc import Sequence
 from pathlib import Path
+
+from tests.shared.samples import DEBIAN_DATABASES
+
+
+def add_words(parser: argparse.ArgumentParser) -> None:
+    """The words of a test that compares: where the databases are, and which program is asked."""
+    parser.add_argument(
+        "--folder",
+        default=DEBIAN_DATABASES,
+        help=f"where the databases are (default {DEBIAN_DATABASES})",
+    )
+    parser.add_argument(
+        "--metamath", default=shutil.which("metamath"), help="the program to compare with"
+    )
 
 
 def opening(database: str) -> list[str]:
