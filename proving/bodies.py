@@ -69,18 +69,18 @@ def try_bodies(choice: Choice, top: Path = TOP) -> int:
     or something else isn't as it must be. Without that line the run came to no end.
     """
     toolchain.sweep()
-    with tempfile.TemporaryDirectory(prefix=f"rt-copy-{os.getpid()}-") as room:
-        end_with(room)
-        tree = Tree(top, Path(room))
+    with tempfile.TemporaryDirectory(prefix=f"rt-copy-{os.getpid()}-") as folder:
+        end_with(folder)
+        tree = Tree(top, Path(folder))
         return tried(tree, choice, Teller())
 
 
-def end_with(room: str) -> None:
-    """Has a signal remove the room and end the run at once, also while threads wait for checks.
+def end_with(folder: str) -> None:
+    """Has a signal remove the folder and end the run at once, also while threads wait for checks.
     The checks end with the process, as all do that `rt` starts."""
 
     def end(number: int, _: FrameType | None) -> None:
-        shutil.rmtree(room, ignore_errors=True)
+        shutil.rmtree(folder, ignore_errors=True)
         os._exit(128 + number)
 
     for number in (signal.SIGINT, signal.SIGTERM, signal.SIGHUP):

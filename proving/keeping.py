@@ -121,8 +121,8 @@ class Kept:
         kept = self.folder / name_of(of_tests, key)
         if kept.exists():
             return
-        with self.room() as room:
-            made = Path(room, "made")
+        with self.unfinished() as folder:
+            made = Path(folder, "made")
             made.mkdir()
             for path in made_in(Path(crate.folder, "out"), of_tests):
                 if path.is_dir():
@@ -143,12 +143,12 @@ class Kept:
 
     def keep_tried(self, name: str, kind: str, text: str) -> None:
         """Keeps what was found of an edit."""
-        with self.room() as room:
-            made = Path(room, "made")
+        with self.unfinished() as folder:
+            made = Path(folder, "made")
             made.write_text(json.dumps([kind, text]), "utf-8")
             made.replace(self.folder / f"{name}.json")
 
-    def room(self) -> "tempfile.TemporaryDirectory[str]":
+    def unfinished(self) -> "tempfile.TemporaryDirectory[str]":
         """A folder beside what is kept, for what isn't whole yet."""
         self.folder.mkdir(parents=True, exist_ok=True)
         return tempfile.TemporaryDirectory(prefix="new-", dir=self.folder)

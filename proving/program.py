@@ -19,8 +19,8 @@ def take(top: Path) -> int:
     the status, which is 1 where none is kept.
     """
     begun = time.time()
-    with tempfile.TemporaryDirectory(prefix=f"rt-copy-{os.getpid()}-") as room:
-        tree = Tree(top, Path(room))
+    with tempfile.TemporaryDirectory(prefix=f"rt-copy-{os.getpid()}-") as folder:
+        tree = Tree(top, Path(folder))
         crate = tree.crates[NAME]
         if not all(tree.take(each) for each in (*crate.below(), crate)):
             print(f"proving: `rt ci` keeps no proof of {NAME} as it stands")

@@ -32,22 +32,22 @@ HEAD = re.compile(rb"--@ antt-checked \d+\n--@ kernel (antt-checked-[\w./-]+)\n-
 def seed_of(crate: Crate) -> Iterator[str]:
     """A folder with what the crate's proof proved, for one check. It is removed afterwards. Without
     a whole library there is none, and its name is empty."""
-    with tempfile.TemporaryDirectory(prefix=f"rt-edit-{os.getpid()}-") as room:
+    with tempfile.TemporaryDirectory(prefix=f"rt-edit-{os.getpid()}-") as folder:
         # (what a toolchain keeps itself was never tried here, and its libraries aren't whole)
         has_library = crate.makes_rlib() and not toolchain.keeps()
-        yield room if has_library and unpacked(Path(crate.rlib), Path(room)) else ""
+        yield folder if has_library and unpacked(Path(crate.rlib), Path(folder)) else ""
 
 
-def unpacked(library: Path, room: Path) -> int:
+def unpacked(library: Path, folder: Path) -> int:
     """Writes the modules of a library into a folder, as a check wants them. Returns how many there
     were: none if the library isn't whole, or not as expected."""
     count = 0
     try:
         for build, name, module in modules_of(library):
             # (a name of a file has no place for a slash)
-            folder = room / build.replace("/", "_")
-            folder.mkdir(exist_ok=True)
-            (folder / f"{name}.oantt").write_bytes(module)
+            of_build = folder / build.replace("/", "_")
+            of_build.mkdir(exist_ok=True)
+            (of_build / f"{name}.oantt").write_bytes(module)
             count += 1
     except (OSError, TypeError, ValueError):
         return 0

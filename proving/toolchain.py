@@ -23,7 +23,7 @@ from typing import Any
 from proving import keeping
 
 # The folders for temporary files of a run, which have its number in their names.
-ROOMS = re.compile(r"rt-(?:copy|edit)-(\d+)-.*")
+TEMPORARY = re.compile(r"rt-(?:copy|edit)-(\d+)-.*")
 
 
 def _loaded(name: str) -> ModuleType:
@@ -87,7 +87,7 @@ def sweep() -> None:
         rt().sweep()
         return
     for path in Path(tempfile.gettempdir()).iterdir():
-        found = ROOMS.fullmatch(path.name)
+        found = TEMPORARY.fullmatch(path.name)
         if found and not os.path.exists(f"/proc/{found[1]}"):
             shutil.rmtree(path, ignore_errors=True)
 

@@ -29,14 +29,14 @@ class NotProved(Exception):
 class Tree:
     """The crates of a repository, in a copy of their files as they stand now."""
 
-    def __init__(self, top: Path, room: Path) -> None:
+    def __init__(self, top: Path, folder: Path) -> None:
         rt = toolchain.rt()
         for name in FORGOTTEN:
             os.environ.pop(getattr(rt.rtlib, name), None)
         os.environ.pop("RT_SECONDS", None)
         # The first call sets the handler of a signal, which the main thread alone may do.
         rt.rtlib.guarded()
-        self.top = room / "repo"
+        self.top = folder / "repo"
         # Libraries are built as they are kept: by a toolchain that keeps nothing, whole.
         rt.Crate.cuts_libraries = toolchain.keeps()
         crates = toolchain.copied_crates(str(top), str(self.top))

@@ -223,16 +223,16 @@ def checked(crate: Crate, texts: dict[str, bytes], only: list[str], seed: str = 
     rt = toolchain.rt()
     flags = ["--jobs", "1", *(word for path in only for word in ("--only", path))]
     flags += ["--incremental", seed] if seed else []
-    with tempfile.TemporaryDirectory(prefix=f"rt-edit-{os.getpid()}-") as room:
+    with tempfile.TemporaryDirectory(prefix=f"rt-edit-{os.getpid()}-") as folder:
         for part in rt.rtlib.PARTS:
             if os.path.isdir(f"{crate.folder}/{part}"):
-                shutil.copytree(f"{crate.folder}/{part}", f"{room}/{part}")
+                shutil.copytree(f"{crate.folder}/{part}", f"{folder}/{part}")
         for path, text in texts.items():
-            file = Path(room, path)
+            file = Path(folder, path)
             file.parent.mkdir(parents=True, exist_ok=True)
             file.write_bytes(text)
         words = [rt.rtlib.RATTLE, "check", *crate.words(flags, keeps=False)]
-        return run([*rt.rtlib.guarded(), *words], room)
+        return run([*rt.rtlib.guarded(), *words], folder)
 
 
 def run(words: list[str], folder: str) -> Said:

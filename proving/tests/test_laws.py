@@ -127,8 +127,8 @@ class Laws(Repository):
 
     def reached(self) -> dict[str, Reach | None]:
         """What each edit reaches."""
-        with tempfile.TemporaryDirectory(dir=self.place) as room:
-            crate = Tree(self.top, Path(room)).crates["laws"]
+        with tempfile.TemporaryDirectory(dir=self.place) as folder:
+            crate = Tree(self.top, Path(folder)).crates["laws"]
             modules = Modules(crate, functions_of(crate))
             found: list[Edit] = edits_of(crate)[0]
             return {edit.path.stem: modules.reached(edit) for edit in found}

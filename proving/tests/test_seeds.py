@@ -46,10 +46,10 @@ class Unpacked(unittest.TestCase):
 
     def found(self) -> dict[str, bytes]:
         """What is unpacked, by the names of files."""
-        with tempfile.TemporaryDirectory() as room:
-            count = unpacked(self.library, Path(room))
-            files = [path for path in Path(room).rglob("*") if path.is_file()]
-            found = {str(path.relative_to(room)): path.read_bytes() for path in files}
+        with tempfile.TemporaryDirectory() as folder:
+            count = unpacked(self.library, Path(folder))
+            files = [path for path in Path(folder).rglob("*") if path.is_file()]
+            found = {str(path.relative_to(folder)): path.read_bytes() for path in files}
         self.assertIn(count, (0, len(found)))
         return found if count else {}
 

@@ -110,7 +110,7 @@ def check_evil_comment(browser: Browser, words: list[str]) -> None:
     )
     links = ["#axiom=constructor", "#search=%5BAuthor%5D", 'http://example.org/?a="b"']
     same(kept, [1, 1, 0, links], f"{browser.name}: what is kept of a comment's markup")
-    same(view["marks"], ["New usage is discouraged"], f"{browser.name}: a mark")
+    same(view["discouraged"], ["New usage is discouraged"], f"{browser.name}: discouraged")
     view = browser.show("#axiom=__proto__", "__proto__")
     wanted = "Syntax with a form feed, a tab and a line feed. Another sentence."
     same(view["comment"], wanted, f"{browser.name}: white space of a comment")

@@ -46,7 +46,7 @@ window.gather = async (hash, label) => {
         stars: stars ? Array.from(stars.children, spelled) : null,
         comment: comment?.textContent ?? "",
         credits: texts(".credits li"),
-        marks: texts(".marks li"),
+        discouraged: texts(".discouragements li"),
         place: main.querySelector("#place")?.textContent ?? "",
         chapters: Array.from(main.querySelectorAll("#place a"), (one) => one.getAttribute("href")),
         rests: Array.from(main.querySelectorAll("#rests-on details"), (fold) => [

@@ -173,14 +173,15 @@ class Shown:
             same(len(stated), 2 * len(wanted), f"{name}: the number of pairs of dummy variables")
 
     def comment(self, shown: dict[str, Any], label: str) -> None:
-        """All words of the comment are shown, mathematics aside; credits and marks, too."""
+        """All words of the comment are shown, mathematics aside; so are credits, and what is
+        discouraged."""
         name = self.name(label)
         raw = self.truth.comments.get(label, "")
         told = " ".join(shown["credits"]) + shown["comment"]
         for date in DATE.findall(raw):
             check(date in told, f"{name}: the date {date}", told)
-        marks = len({" ".join(mark.split()) for mark in SENTENCE.findall(raw)})
-        same(len(shown["marks"]), marks, f"{name}: marks")
+        sentences = {" ".join(each.split()) for each in SENTENCE.findall(raw)}
+        same(len(shown["discouraged"]), len(sentences), f"{name}: what is discouraged")
         if "<" in raw or "``" in raw:
             return
         plain = CREDIT.sub("", SENTENCE.sub("", re.sub(r"`[^`]*`", "", raw)))

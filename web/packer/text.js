@@ -4,8 +4,9 @@
 import { Byte, Lists, Numbers, Words, afterComment, closeOf, isComment, isSame, textAt } from "./bytes.js";
 import { floatingItem, otherItem } from "./codes.js";
 
-/** The lines that enclose the title of a part, a chapter, a section and a subsection. */
+/** How the lines begin that enclose the title of a part, a chapter, a section and a subsection. */
 const DECORATIONS = ["####", "#*#*", "=-=-", "-.-."];
+const DECORATION_LENGTH = 4;
 /** How many lines a title has at most. */
 const MOST_LINES = 4;
 const Sign = { a: 0x61, d: 0x64, e: 0x65, f: 0x66, j: 0x6a, o: 0x6f, p: 0x70, t: 0x74, v: 0x76 };
@@ -535,8 +536,8 @@ class Gaps {
  * @param {number} end
  */
 function levelAt(data, place, end) {
-    if (end - place < 4 || !isDecoration(data[place])) return -1;
-    return DECORATIONS.indexOf(textAt(data, place, place + 4));
+    if (end - place < DECORATION_LENGTH || !isDecoration(data[place])) return -1;
+    return DECORATIONS.indexOf(textAt(data, place, place + DECORATION_LENGTH));
 }
 
 /**

@@ -100,7 +100,7 @@ export function textOf(block) {
 }
 
 /** A block that is a list of numbers, read from a place on. Damaged where it ends within a number. */
-export class Numbers {
+export class NumberReader {
     /** @param {Uint8Array} block */
     constructor(block, place = 0) {
         this.block = block;

@@ -39,6 +39,7 @@ const CREDIT = new RegExp(
         String.raw`(\d{1,2}-[A-Z][a-z]{2}-\d{4})\.?\)(?!\S)`,
     "g",
 );
+/** What packer/comments.js reads as flags, which the head of a statement shows. */
 const DISCOURAGED = /(?<!\S)\((?:New usage|Proof modification) is discouraged\.\)(?!\S)/g;
 
 /** What isn't plain text in a comment. */

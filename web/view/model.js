@@ -4,7 +4,7 @@
 import { Flag, Kind } from "../packer/assertions.js";
 import { columnsIn, lowestOf } from "../packer/bits.js";
 import { Chapters } from "./chapters.js";
-import { Lists, Numbers, Texts, numbersOf, startsOf, textOf } from "./decode.js";
+import { Lists, NumberReader, Texts, numbersOf, startsOf, textOf } from "./decode.js";
 
 /** @typedef {import("./types.js").Conditions} Conditions */
 /** @typedef {import("./types.js").Difference} Difference */
@@ -112,9 +112,9 @@ export class Model {
     readRows(blocks) {
         const words = this.rowWords;
         const bits = new Uint32Array(this.theorems.length * words);
-        const above = new Numbers(blocks.get("row-above"));
-        const lengths = new Numbers(blocks.get("row-lengths"));
-        const gaps = new Numbers(blocks.get("row-gaps"));
+        const above = new NumberReader(blocks.get("row-above"));
+        const lengths = new NumberReader(blocks.get("row-lengths"));
+        const gaps = new NumberReader(blocks.get("row-gaps"));
         for (let row = 0; row < this.theorems.length; row++) {
             const start = row * words;
             const distance = above.next();

@@ -17,6 +17,8 @@ const SHADES = 64;
 const FAINTEST = 0.22;
 const NARROW_PICTURE = 520; // below this width chapters have no names in the picture
 const HEADER = 10; // the height of the band that shows the groups of the columns
+const FAR = 20; // how many cells an arrow key goes with Shift
+const KEY_ZOOM = 1.5; // how many times as large the picture gets by a key
 
 /** What is counted once of the matrix. */
 export class Counts {
@@ -536,15 +538,15 @@ export class Picture extends Drawing {
         const across = (at.index + 0.5 - left) / (right - left);
         if (event.key in steps) {
             const [dy, dx] = steps[event.key];
-            const far = event.shiftKey ? 20 : 1;
+            const far = event.shiftKey ? FAR : 1;
             const tall = Math.max(1, Math.ceil((bottom - top) / (this.high / this.ratio / 2))) * far;
             const broad = Math.max(1, Math.ceil((right - left) / (this.wide / this.ratio / 2))) * far;
             this.point(at.row + dy * tall, at.index + dx * broad);
         } else if (event.key in pages) {
             this.move(pages[event.key], 0);
             this.point(at.row + pages[event.key] * (bottom - top), at.index);
-        } else if (event.key === "+" || event.key === "=") this.zoom(1.5, down, across);
-        else if (event.key === "-") this.zoom(1 / 1.5, down, across);
+        } else if (event.key === "+" || event.key === "=") this.zoom(KEY_ZOOM, down, across);
+        else if (event.key === "-") this.zoom(1 / KEY_ZOOM, down, across);
         else if (event.key === "0") this.showAll();
         else if (event.key === "Enter") this.onOpen(at.row, this.order[at.index], event.shiftKey);
         else return;

@@ -16,7 +16,7 @@ import {
     numberOf,
     otherItem,
 } from "../packer/codes.js";
-import { Damaged, Lists, Numbers, Texts, startsOf, textOf } from "./decode.js";
+import { Damaged, Lists, NumberReader, Texts, startsOf, textOf } from "./decode.js";
 import { firstWord } from "./model.js";
 
 /** @typedef {import("./model.js").Model} Model */
@@ -45,7 +45,7 @@ class FloatingFrames {
      * @param {number} floatingCount how many `$f` there are
      */
     constructor(block, size, floatingCount) {
-        const numbers = new Numbers(block);
+        const numbers = new NumberReader(block);
         const sizes = new Uint32Array(size);
         /** @type {number[]} */
         const items = [];
@@ -74,7 +74,7 @@ class FloatingFrames {
 class Chunk {
     /** @param {Uint8Array} block */
     constructor(block) {
-        const numbers = new Numbers(block);
+        const numbers = new NumberReader(block);
         const sizes = Array.from({ length: KINDS + Code.recent }, () => numbers.next());
         const starts = startsOf(sizes);
         const streams = block.subarray(numbers.place);
@@ -91,7 +91,7 @@ class Cursor {
      * @param {number} proof one whose places are known
      */
     constructor({ streams, places }, proof) {
-        this.streams = streams.map((stream, at) => new Numbers(stream, places[proof][at]));
+        this.streams = streams.map((stream, at) => new NumberReader(stream, places[proof][at]));
     }
 
     get places() {
@@ -156,7 +156,7 @@ export class Proofs {
             if (!this.codes.has(code)) this.codes.set(code, this.codes.size);
         }
         this.frames = new FloatingFrames(frames, this.model.size, this.floating.size);
-        const numbers = new Numbers(labels);
+        const numbers = new NumberReader(labels);
         this.frequent = Array.from({ length: KINDS }, (_, kind) => {
             const length = kind === 0 ? 0 : numbers.next();
             if (length > FREQUENT) throw new Damaged("more labels are often used than there can be");

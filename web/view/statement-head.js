@@ -36,7 +36,7 @@ export class Statements {
         );
         return [
             title,
-            ...this.marks(number),
+            ...this.discouragements(number),
             ...(comment === "" ? [] : [elements.comment(readComment(comment), { id: "comment" })]),
             ...this.hypotheses(number),
             element("div", { class: "statement", id: "statement" }, formula),
@@ -49,14 +49,14 @@ export class Statements {
      * What is discouraged, as the comment says.
      * @param {number} number
      */
-    marks(number) {
+    discouragements(number) {
         const flags = this.model.flags[number];
-        const marks = [];
-        if (flags & Flag.usage) marks.push(element("li", { class: "discouraged" }, "New usage is discouraged"));
+        const told = [];
+        if (flags & Flag.usage) told.push(element("li", { class: "discouraged" }, "New usage is discouraged"));
         if (flags & Flag.modification) {
-            marks.push(element("li", { class: "discouraged" }, "Proof modification is discouraged"));
+            told.push(element("li", { class: "discouraged" }, "Proof modification is discouraged"));
         }
-        return marks.length > 0 ? [element("ul", { class: "marks", "aria-label": "Marks" }, ...marks)] : [];
+        return told.length > 0 ? [element("ul", { class: "discouragements", "aria-label": "Discouraged" }, ...told)] : [];
     }
 
     /** @param {number} number */
