@@ -1,4 +1,5 @@
-// Packs what the page shows into blocks of bytes; decode.js and model.js of the view read them.
+// Packs what the page shows into blocks of bytes; decode.js and model.js of the view read them. Two kinds of blocks are
+// made elsewhere: `proof-..` by proof-packer.js, and `against` by difference.js.
 //
 // A number is written seven bits at a time, the lowest first; each byte but the last has its highest bit set. A text has
 // one line for each entry. The blocks `comments-0` and so on have the comments of `COMMENTS_IN_BLOCK` assertions each, and are read
