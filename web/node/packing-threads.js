@@ -100,5 +100,5 @@ async function packProofPart(source, asked, blocks) {
     const { request, report, behind } = await asked;
     // The main thread sees that the marks agree.
     const proofs = new ProofPacker(readCitations(readText(source, report), request, report));
-    proofs.packSteps(proofs.chunkBehind(behind), Infinity, blocks);
+    proofs.packSteps(proofs.blockBehind(behind), Infinity, blocks);
 }

@@ -312,7 +312,7 @@ async function blocksOf({ naming, title, watched, request, older }, data, thread
     packMarks(database.side.dependence, ofReport);
     const proofs = new ProofPacker(database.side.dependence);
     proofs.packFrames(ofReport);
-    proofs.packSteps(0, proofs.chunkBehind(FIRST_PART), ofReport);
+    proofs.packSteps(0, proofs.blockBehind(FIRST_PART), ofReport);
     const ofComparison = new Deflating();
     if (older) await packAgainst(older, database, request, core, ofComparison);
     const parts = await Promise.all([ofText, ofReport.blocks(), ofOtherProofs, ofComparison.blocks()]);

@@ -288,7 +288,7 @@ function packStatements(text, about, entities, blocks) {
     const facts = {
         ...about,
         hypotheses: text.hypotheses.size,
-        chunk: COMMENTS_IN_BLOCK,
+        commentsInBlock: COMMENTS_IN_BLOCK,
         chapters: chaptersOf(text),
         variables,
         ...symbolsOf(text, vocabulary, entities),
@@ -306,7 +306,7 @@ function packStatements(text, about, entities, blocks) {
 }
 
 /**
- * The comments in chunks, the flags of each, and the texts below the titles of chapters.
+ * The comments block by block, the flags of each, and the texts below the titles of chapters.
  * @param {Text} text
  * @param {BlockSink} blocks
  */

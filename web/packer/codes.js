@@ -1,7 +1,7 @@
 // How steps of proofs are written in the blocks of a page: proof-packer.js packs them, and proof-reader.js of
 // the view reads them.
 //
-// A block `proof-steps-0` and so on has the proofs of `PROOFS_IN_CHUNK` theorems. It is made of streams, and begins with how many
+// A block `proof-steps-0` and so on has the proofs of `PROOFS_IN_BLOCK` theorems. It is made of streams, and begins with how many
 // bytes each of them has. The steps of a proof stand in them from the last to the first. Who reads them knows which
 // typecode comes next: first that of the theorem, and then those of the hypotheses of what was read. So there is a
 // stream for each kind of typecodes, with a byte for each step:
@@ -13,7 +13,7 @@
 // last used or marked, and only the last `RECENT` of them; others by how many were marked after them.
 
 /** How many proofs are in a block. */
-export const PROOFS_IN_CHUNK = 2048;
+export const PROOFS_IN_BLOCK = 2048;
 /** Typecodes that no `$f` has are of the kind 0; the others take turns with the other kinds. */
 export const KINDS = 4;
 /** How many repeated steps of a kind have a code, and how many labels. */

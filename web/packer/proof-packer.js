@@ -2,7 +2,7 @@
 
 import { Byte, Cutter, Numbers, Words, Writer, afterComment, closeOf, wordFrom } from "./bytes.js";
 import {
-    PROOFS_IN_CHUNK,
+    PROOFS_IN_BLOCK,
     Code,
     FREQUENT,
     KINDS,
@@ -219,13 +219,13 @@ export class ProofPacker {
      * The first block of which all proofs stand behind a part of the text.
      * @param {number} part from 0 to 1
      */
-    chunkBehind(part) {
+    blockBehind(part) {
         const { theorems } = this.dependence;
         const { places } = this.text;
         const place = part * this.text.source.length;
-        let chunk = 0;
-        while (chunk * PROOFS_IN_CHUNK < theorems.length && places.items[theorems[chunk * PROOFS_IN_CHUNK]] < place) chunk++;
-        return chunk;
+        let block = 0;
+        while (block * PROOFS_IN_BLOCK < theorems.length && places.items[theorems[block * PROOFS_IN_BLOCK]] < place) block++;
+        return block;
     }
 
     /**
@@ -236,9 +236,9 @@ export class ProofPacker {
      */
     packSteps(first, end, blocks) {
         const { length } = this.dependence.theorems;
-        for (let chunk = first; chunk < end && chunk * PROOFS_IN_CHUNK < length; chunk++) {
-            for (let row = chunk * PROOFS_IN_CHUNK; row < Math.min(length, (chunk + 1) * PROOFS_IN_CHUNK); row++) this.pack(row);
-            blocks.set(`proof-steps-${chunk}`, this.taken());
+        for (let block = first; block < end && block * PROOFS_IN_BLOCK < length; block++) {
+            for (let row = block * PROOFS_IN_BLOCK; row < Math.min(length, (block + 1) * PROOFS_IN_BLOCK); row++) this.pack(row);
+            blocks.set(`proof-steps-${block}`, this.taken());
         }
     }
 

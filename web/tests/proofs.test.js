@@ -58,7 +58,7 @@ function linesOf(derivation, areAll = false) {
     return steps.map((step) => {
         const number = derivation.steps.numbers[step];
         const labels = [
-            () => derivation.proofs.givenBy(number).label,
+            () => derivation.proofs.floatingAt(number).label,
             () => model.hypothesisLabels.at(number),
             () => model.labels.at(number),
         ];
@@ -92,13 +92,13 @@ test("proofs that two threads pack are those that one packs", () => {
     const report = encoded(reportOf(...chain));
     const here = new ProofPacker(readReport(readText(source, report), PLAIN, report));
     const there = new ProofPacker(readCitations(readText(source, report), PLAIN, report));
-    const middle = here.chunkBehind(0.35);
+    const middle = here.blockBehind(0.35);
     assert.equal(middle, 1); // of three
     /** @type {Map<string, Uint8Array>} */
     const blocks = new Map();
     here.packFrames(blocks);
     here.packSteps(0, middle, blocks);
-    there.packSteps(there.chunkBehind(0.35), Infinity, blocks);
+    there.packSteps(there.blockBehind(0.35), Infinity, blocks);
     const ofProofs = [...blocksOf(...chain)].filter(([name]) => name.startsWith("proof-"));
     assert.deepEqual([...blocks], ofProofs);
 });

@@ -82,7 +82,7 @@ export class Derivation {
         const number = this.steps.numbers[step];
         switch (this.steps.what[step]) {
             case Step.floating:
-                return ` ${this.proofs.formulaGivenBy(number)}`;
+                return ` ${this.proofs.floatingFormula(number)}`;
             case Step.hypothesis:
                 return ` ${this.model.hypothesisFormulas.at(number)}`;
             case Step.assertion:
@@ -142,11 +142,11 @@ export class Derivation {
         const frame = proofs.frameOf(assertion);
         const places = new Map();
         frame.forEach((item, at) => {
-            if (isFloating(item)) places.set(proofs.givenBy(numberOf(item)).variable, at);
+            if (isFloating(item)) places.set(proofs.floatingAt(numberOf(item)).variable, at);
         });
         const given = frame.map((item) => {
             const number = numberOf(item);
-            const said = isFloating(item) ? proofs.formulaGivenBy(number) : model.hypothesisFormulas.at(number);
+            const said = isFloating(item) ? proofs.floatingFormula(number) : model.hypothesisFormulas.at(number);
             return templateOf(said, places);
         });
         const areEssential = frame.map((item) => !isFloating(item));

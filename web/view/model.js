@@ -73,7 +73,7 @@ export class Model {
         /** @type {Map<string, number> | undefined} */
         this.numbers = undefined;
         /** @type {(Texts | undefined)[]} */
-        this.commentChunks = new Array(Math.ceil(this.size / this.facts.chunk));
+        this.commentBlocks = new Array(Math.ceil(this.size / this.facts.commentsInBlock));
         /** @type {Lists | undefined} */
         this.citers = undefined;
         /** @type {Int32Array | undefined} */
@@ -393,15 +393,15 @@ export class Model {
     }
 
     /**
-     * Reads the comments of a chunk.
-     * @param {number} chunk
+     * Reads the comments of a block.
+     * @param {number} block
      */
-    async loadComments(chunk) {
-        const known = this.commentChunks[chunk];
+    async loadComments(block) {
+        const known = this.commentBlocks[block];
         if (known) return known;
-        const size = Math.min(this.facts.chunk, this.size - chunk * this.facts.chunk);
-        const texts = new Texts(textOf(await this.blocks.load(`comments-${chunk}`)), size);
-        this.commentChunks[chunk] = texts;
+        const size = Math.min(this.facts.commentsInBlock, this.size - block * this.facts.commentsInBlock);
+        const texts = new Texts(textOf(await this.blocks.load(`comments-${block}`)), size);
+        this.commentBlocks[block] = texts;
         return texts;
     }
 
@@ -411,15 +411,15 @@ export class Model {
      */
     async comment(number) {
         if (!(this.flags[number] & Flag.comment)) return "";
-        return (await this.loadComments(Math.floor(number / this.facts.chunk))).at(number % this.facts.chunk);
+        return (await this.loadComments(Math.floor(number / this.facts.commentsInBlock))).at(number % this.facts.commentsInBlock);
     }
 
     /**
-     * The comment of an assertion if its chunk has been read, otherwise undefined.
+     * The comment of an assertion if its block has been read, otherwise undefined.
      * @param {number} number
      */
     knownComment(number) {
-        return this.commentChunks[Math.floor(number / this.facts.chunk)]?.at(number % this.facts.chunk);
+        return this.commentBlocks[Math.floor(number / this.facts.commentsInBlock)]?.at(number % this.facts.commentsInBlock);
     }
 
     /**

@@ -1,7 +1,7 @@
 // Reads the steps of proofs from the blocks of the page, as codes.js and proof-packer.js of the packer say.
 
 import {
-    PROOFS_IN_CHUNK,
+    PROOFS_IN_BLOCK,
     Code,
     FREQUENT,
     KINDS,
@@ -70,8 +70,8 @@ class FloatingFrames {
     }
 }
 
-/** The block of a chunk: its streams, and where in them the proofs begin that were passed. */
-class Chunk {
+/** A block of steps: its streams, and where in them the proofs begin that were passed. */
+class StepBlock {
     /** @param {Uint8Array} block */
     constructor(block) {
         const numbers = new NumberReader(block);
@@ -84,10 +84,10 @@ class Chunk {
     }
 }
 
-/** A place in each stream of a chunk. Whoever reads has one for himself, since he waits now and then, and others read. */
+/** A place in each stream of a block. Whoever reads has one for himself, since he waits now and then, and others read. */
 class Cursor {
     /**
-     * @param {Chunk} chunk
+     * @param {StepBlock} block
      * @param {number} proof one whose places are known
      */
     constructor({ streams, places }, proof) {
@@ -129,8 +129,8 @@ export class Proofs {
         this.frequent = [];
         /** @type {Set<number>} */
         this.isFrequent = new Set();
-        /** @type {Map<number, Promise<Chunk>>} */
-        this.chunks = new Map();
+        /** @type {Map<number, Promise<StepBlock>>} */
+        this.stepBlocks = new Map();
         /** @type {Map<number, number[]>} Of assertions the kinds of their hypotheses. */
         this.kinds = new Map();
     }
@@ -152,7 +152,7 @@ export class Proofs {
         const text = textOf(floating);
         this.floating = new Texts(text, text === "" ? 0 : text.split("\n").length);
         for (let number = 0; number < this.floating.size; number++) {
-            const code = this.givenBy(number).code;
+            const code = this.floatingAt(number).code;
             if (!this.codes.has(code)) this.codes.set(code, this.codes.size);
         }
         this.frames = new FloatingFrames(frames, this.model.size, this.floating.size);
@@ -169,7 +169,7 @@ export class Proofs {
      * What a `$f` says.
      * @param {number} number
      */
-    givenBy(number) {
+    floatingAt(number) {
         const [label, code, variable] = this.floating.at(number).split(" ");
         if (variable === undefined) throw new Damaged("a `$f` has no variable");
         return { label, code, variable };
@@ -179,8 +179,8 @@ export class Proofs {
      * What a `$f` says, as a formula.
      * @param {number} number
      */
-    formulaGivenBy(number) {
-        const { code, variable } = this.givenBy(number);
+    floatingFormula(number) {
+        const { code, variable } = this.floatingAt(number);
         return `${code} ${variable}`;
     }
 
@@ -220,7 +220,7 @@ export class Proofs {
         if (!kinds) {
             const { hypothesisFormulas } = this.model;
             kinds = this.frameOf(assertion).map((item) => {
-                if (isFloating(item)) return this.kindOf(this.givenBy(numberOf(item)).code);
+                if (isFloating(item)) return this.kindOf(this.floatingAt(numberOf(item)).code);
                 return this.kindOf(hypothesisFormulas.at(numberOf(item)));
             });
             this.kinds.set(assertion, kinds);
@@ -241,16 +241,16 @@ export class Proofs {
     }
 
     /**
-     * The chunk of this number.
+     * The block of this number.
      * @param {number} number
      */
-    chunk(number) {
-        let chunk = this.chunks.get(number);
-        if (!chunk) {
-            chunk = this.model.blocks.load(`proof-steps-${number}`).then((block) => new Chunk(block));
-            this.chunks.set(number, chunk);
+    stepBlock(number) {
+        let block = this.stepBlocks.get(number);
+        if (!block) {
+            block = this.model.blocks.load(`proof-steps-${number}`).then((bytes) => new StepBlock(bytes));
+            this.stepBlocks.set(number, block);
         }
-        return chunk;
+        return block;
     }
 
     /**
@@ -262,11 +262,11 @@ export class Proofs {
     async steps(theorem, turns) {
         await this.load();
         const row = this.model.rowOf[theorem];
-        const first = row - (row % PROOFS_IN_CHUNK);
-        const chunk = await this.chunk(first / PROOFS_IN_CHUNK);
-        const { places } = chunk;
-        let proof = Math.min(row % PROOFS_IN_CHUNK, places.length - 1);
-        const cursor = new Cursor(chunk, proof);
+        const first = row - (row % PROOFS_IN_BLOCK);
+        const block = await this.stepBlock(first / PROOFS_IN_BLOCK);
+        const { places } = block;
+        let proof = Math.min(row % PROOFS_IN_BLOCK, places.length - 1);
+        const cursor = new Cursor(block, proof);
         while (first + proof < row) {
             await new Backward(this, cursor, this.model.theorems[first + proof], false).read(turns);
             places[++proof] = cursor.places;

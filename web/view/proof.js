@@ -141,7 +141,7 @@ export class ProofView {
         const number = steps.numbers[step];
         if (steps.what[step] === Step.assertion) return this.elements.link(number);
         const isFloating = steps.what[step] === Step.floating;
-        const label = isFloating ? this.proofs.givenBy(number).label : this.model.hypothesisLabels.at(number);
+        const label = isFloating ? this.proofs.floatingAt(number).label : this.model.hypothesisLabels.at(number);
         return this.elements.label(label);
     }
 }

@@ -128,20 +128,20 @@ export class Search {
     }
 
     async prepareAll() {
-        const { chunk } = this.model.facts;
+        const { commentsInBlock } = this.model.facts;
         let began = performance.now();
         const rest = async () => {
             if (performance.now() - began < SLICE) return;
             await new Promise((resume) => setTimeout(resume));
             began = performance.now();
         };
-        for (let first = 0; first < this.size; first += chunk) {
-            this.addFormulas(first, Math.min(this.size, first + chunk));
+        for (let first = 0; first < this.size; first += commentsInBlock) {
+            this.addFormulas(first, Math.min(this.size, first + commentsInBlock));
             await rest();
         }
         this.known.clear();
-        for (let first = 0; first < this.size; first += chunk) {
-            const texts = await this.model.loadComments(first / chunk);
+        for (let first = 0; first < this.size; first += commentsInBlock) {
+            const texts = await this.model.loadComments(first / commentsInBlock);
             this.comments.push(new Lines(new Texts(texts.text.toLowerCase(), texts.size), first));
             await rest();
         }
@@ -245,11 +245,11 @@ export class Search {
      * @param {string} shown the same in plain letters
      */
     maskOf(number, word, written, shown) {
-        const chunk = Math.floor(number / this.model.facts.chunk);
+        const block = Math.floor(number / this.model.facts.commentsInBlock);
         let mask = this.labels.has(number, word) ? In.label : 0;
-        if (this.formulas[chunk]?.has(number, written)) mask |= In.formula;
-        else if (shown !== "" && this.shown[chunk]?.has(number, shown)) mask |= In.formula;
-        if (this.comments[chunk]?.has(number, word)) mask |= In.comment;
+        if (this.formulas[block]?.has(number, written)) mask |= In.formula;
+        else if (shown !== "" && this.shown[block]?.has(number, shown)) mask |= In.formula;
+        if (this.comments[block]?.has(number, word)) mask |= In.comment;
         return mask;
     }
 
@@ -273,11 +273,11 @@ export class Search {
      * @param {string} shown the same in plain letters
      */
     isExact(number, written, shown) {
-        const chunk = Math.floor(number / this.model.facts.chunk);
+        const block = Math.floor(number / this.model.facts.commentsInBlock);
         const { written: size, shown: shownSize } = this.codeSizes;
         return (
-            (this.formulas[chunk]?.begins(number, written, size[number]) ?? false) ||
-            (this.shown[chunk]?.begins(number, shown, shownSize[number]) ?? false)
+            (this.formulas[block]?.begins(number, written, size[number]) ?? false) ||
+            (this.shown[block]?.begins(number, shown, shownSize[number]) ?? false)
         );
     }
 

@@ -13,7 +13,7 @@
  * @property {boolean} open
  * @property {string[]} watched labels of axioms
  * @property {number} hypotheses how many `$e` statements there are
- * @property {number} chunk how many comments are in a block
+ * @property {number} commentsInBlock how many comments are in a block
  * @property {[number, string, string, number, number][]} chapters level, number, title, first assertion, end
  * @property {[string, string][]} variables each with its typecode
  * @property {[string, Piece[]][]} symbols how each is shown
