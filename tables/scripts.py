@@ -12,6 +12,7 @@ from tables.sources import Program
 from tables.words import OF_NODE, PAGE, Words, sentence
 
 WIDTH = 125  # of a line of JavaScript
+PAGE_COLUMN = 23  # where the help of the command `page` begins what it says of an option
 CONST = "/** @type {const} */"
 
 
@@ -94,10 +95,10 @@ def of_page() -> Iterator[str]:
         for option in options_of("page")
         if option.name != "no-cache"
     ]
-    first = next(at for at, option in enumerate(found) if option.name.startswith("limit"))
-    found[first:first] = OF_NODE
+    limits = next(at for at, option in enumerate(found) if option.name.startswith("limit"))
+    found[limits:limits] = OF_NODE  # before them
     yield from declared(found)
-    yield from literal("OPTION_LINES", "\n".join(help_of(found, 23)))
+    yield from literal("OPTION_LINES", "\n".join(help_of(found, PAGE_COLUMN)))
 
 
 def of_requests(options: dict[Option, Words]) -> Iterator[str]:

@@ -17,6 +17,13 @@ const SHADES = 64;
 const FAINTEST = 0.22;
 const NARROW_PICTURE = 520; // below this width chapters have no names in the picture
 const HEADER = 10; // the height of the band that shows the groups of the columns
+// Of the bands at the left: how large their titles are, how high a line of them is beside that, the space before and behind
+// a title and behind a band, and below which width there are no titles.
+const TITLE_SIZE = 12;
+const LINE_HEIGHT = 1.2;
+const TITLE_SPACE = 5;
+const BAND_GAP = 3;
+const NARROW_GUTTER = 100;
 const FAR = 20; // how many cells an arrow key goes with Shift
 const KEY_ZOOM = 1.5; // how many times as large the picture gets by a key
 
@@ -333,19 +340,20 @@ export class Picture extends Drawing {
         const pen = this.pen;
         const gutter = this.canvas.width - this.wide;
         const head = this.canvas.height - this.high;
-        const size = Math.round(12 * this.ratio);
+        const size = Math.round(TITLE_SIZE * this.ratio);
         pen.font = `${size}px system-ui, sans-serif`;
         pen.textBaseline = "middle";
         this.bands().forEach((band, index) => {
             const from = Math.max(head, this.yOf(band.firstRow));
             const to = Math.min(this.canvas.height, this.yOf(band.endRow));
             pen.fillStyle = this.colours.of(index % 2 ? "--band-odd" : "--band-even");
-            pen.fillRect(0, from, gutter - 3 * this.ratio, to - from);
+            pen.fillRect(0, from, gutter - BAND_GAP * this.ratio, to - from);
             pen.fillStyle = this.colours.of("--band-line");
             pen.fillRect(0, Math.round(from), this.canvas.width, 1);
-            if (to - from < size * 1.2 || this.gutter < 100) return;
+            if (to - from < size * LINE_HEIGHT || this.gutter < NARROW_GUTTER) return;
             pen.fillStyle = this.colours.of("--text");
-            pen.fillText(this.fitted(band.title, gutter - 14 * this.ratio), 5 * this.ratio, (from + to) / 2);
+            const width = gutter - (BAND_GAP + 2 * TITLE_SPACE) * this.ratio;
+            pen.fillText(this.fitted(band.title, width), TITLE_SPACE * this.ratio, (from + to) / 2);
         });
     }
 
