@@ -6,8 +6,8 @@
 import { spawnSync } from "node:child_process";
 import * as fs from "node:fs";
 import { basename } from "node:path";
-import { PARTS, compile, report } from "./library.js";
-import { Status } from "./statuses.js";
+import { PARTS, compile, report } from "../library.js";
+import { Status } from "../statuses.js";
 
 const [, , modulePath, program, count, seed, ...files] = process.argv;
 const module = await compile(fs.readFileSync(modulePath));
@@ -54,7 +54,7 @@ function drawn() {
     };
 }
 
-/** @param {import("./node/types.js").Request} request */
+/** @param {import("../node/types.js").Request} request */
 function words({ report: part, only, form, essential, open }) {
     return [
         "--report",
@@ -70,7 +70,7 @@ function words({ report: part, only, form, essential, open }) {
 /**
  * What the program says.
  * @param {Uint8Array} text
- * @param {import("./node/types.js").Request} request
+ * @param {import("../node/types.js").Request} request
  */
 function answerOf(text, request) {
     const run = spawnSync(program, words(request), { input: text, maxBuffer: 1 << 30 });
@@ -81,7 +81,7 @@ function answerOf(text, request) {
  * Compares one run; with `limits` the module may also say that memory ran out.
  * @param {string} name
  * @param {Uint8Array} text
- * @param {import("./node/types.js").Request} request
+ * @param {import("../node/types.js").Request} request
  * @param {{ room?: number, most?: number }} [limits]
  */
 async function compared(name, text, request, limits) {
