@@ -1,7 +1,10 @@
-// What a text may cost. `mmquery` has the same limits, in query/program/unpacking.py and query/platform/limits.py.
+// What a text may cost, and what is unpacked. `mmquery` has the same limits, in query/program/unpacking.py and
+// query/platform/limits.py.
 
 /** The program refuses longer texts. */
 export const MOST_DATABASE_BYTES = 2_147_483_647;
+/** How a file begins that is compressed by gzip. */
+export const GZIP = [0x1f, 0x8b];
 /** How many times as long as a compressed file its text may be, besides some bytes that are free. */
 export const MOST_TIMES = 100;
 const FREE_TEXT = 1 << 24;

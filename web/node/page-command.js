@@ -6,7 +6,7 @@ import { setFlagsFromString } from "node:v8";
 import { gunzipSync } from "node:zlib";
 import { Deflating } from "./deflating.js";
 import { READING_LIMIT, compile, report } from "../library.js";
-import { MEGABYTE, MOST_TIMES, mostMemory, mostSeconds, mostUnpacked } from "../limits.js";
+import { GZIP, MEGABYTE, MOST_TIMES, mostMemory, mostSeconds, mostUnpacked } from "../limits.js";
 import { encoded } from "../packer/bytes.js";
 import { explained, faultOf, refusalOf } from "../packer/faults.js";
 import { pageFile } from "../packer/page-file.js";
@@ -103,7 +103,6 @@ The database is verified first. The page loads nothing else; a browser of 2023 o
 Status: 0 made, 1 refused, 2 invalid command line, or there is nothing to show, 3 reading or writing
 failed, 4 out of memory. For 1 to 4 the standard error says why, and nothing is written.
 `;
-const GZIP = [0x1f, 0x8b];
 /** From how many bytes on a text makes up for the time that it takes to compile all functions well before they run. */
 const LARGE = 1 << 23;
 /** Up to which part of the text the main thread packs the proofs. It packs the marks too, and so all threads end together. */

@@ -1,10 +1,10 @@
 // The files that are dropped or chosen.
 
 import { visible } from "../packer/visible.js";
-import { MOST_DATABASE_BYTES, MOST_TIMES, mostUnpacked } from "../limits.js";
+import { GZIP, MOST_DATABASE_BYTES, MOST_TIMES, mostUnpacked } from "../limits.js";
 
 /** @typedef {import("./types.js").Chosen} Chosen */
-const GZIP = [0x1f, 0x8b];
+
 /** What else files may be compressed by, and how these begin. */
 const OTHERS = [
     { name: "bzip2", signs: [0x42, 0x5a, 0x68] },

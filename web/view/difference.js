@@ -34,8 +34,8 @@ export class DifferenceView {
         }
         for (const [label, axiom, shifts] of difference.lost) {
             for (const [theorem, citing, cited] of shifts) {
-                const shown = axiom >= 0 ? elements.link(axiom) : this.old(label);
-                const why = [this.old(citing), " no longer cites ", this.old(cited)];
+                const shown = axiom >= 0 ? elements.link(axiom) : elements.mention(label);
+                const why = [elements.mention(citing), " no longer cites ", elements.mention(cited)];
                 this.addShift(theorem, { axiom: shown, isGain: false, why });
             }
         }
@@ -49,15 +49,6 @@ export class DifferenceView {
         const known = this.shifts.get(theorem);
         if (known) known.push(shift);
         else this.shifts.set(theorem, [shift]);
-    }
-
-    /**
-     * A label of the older release: a link, if it is one here, too.
-     * @param {string} label
-     */
-    old(label) {
-        const number = this.model.numberOf(label);
-        return number === undefined ? this.elements.label(label, "code") : this.elements.link(number);
     }
 
     /** The overview of the difference. */
@@ -159,10 +150,10 @@ export class DifferenceView {
     lostFolds() {
         return this.difference.lost.map(([label, axiom, shifts]) =>
             this.elements.fold(
-                this.shiftTitle(axiom >= 0 ? this.elements.link(axiom) : this.old(label), shifts.length),
+                this.shiftTitle(axiom >= 0 ? this.elements.link(axiom) : this.elements.mention(label), shifts.length),
                 () => {
                     const lines = shifts.map(([theorem, citing, cited]) =>
-                        this.shiftLine(theorem, [this.old(citing), " no longer cites ", this.old(cited)]),
+                        this.shiftLine(theorem, [this.elements.mention(citing), " no longer cites ", this.elements.mention(cited)]),
                     );
                     return element("ul", { class: "lines" }, lines);
                 },

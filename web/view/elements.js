@@ -557,7 +557,7 @@ export class Elements {
     }
 
     /**
-     * A label that a comment names: a link, if there is one with it.
+     * A label that a comment names, or that an older release had: a link, if something has it here.
      * @param {string} label
      */
     mention(label) {
