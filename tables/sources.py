@@ -147,19 +147,24 @@ def program() -> Program:
     return program_in(OPTIONS.read_text("utf-8"), sections_in(SECTIONS.read_text("utf-8")))
 
 
-def bits() -> dict[str, int]:
+def bits_in(request: str, sections: str) -> dict[str, int]:
     """The names that `--report` takes, each with the bits by which the library knows it."""
-    text = SECTIONS.read_text("utf-8")
     found = {
         name: int(factor or 1)
-        for name, factor in re.findall(
-            r"^ +(\w+): bits(?: / (\d+))? % 2 == 1,$", BITS.read_text("utf-8"), re.M
-        )
+        for name, factor in re.findall(r"^ +(\w+): bits(?: / (\d+))? % 2 == 1,$", request, re.M)
     }
-    found["all"] = sum(found[name] for name in re.findall(r"^ +(\w+): default \|\|", text, re.M))
-    if set(found) != set(sections_in(text)):
+    is_all = one(r'^ +let (\w+) = has_name\(text, "all"\);$', sections)
+    meant = re.findall(rf"^ +(\w+): {is_all} \|\|", sections, re.M)
+    names = sections_in(sections)
+    if not meant or {*found, "all"} != {*names}:
         raise Unreadable(f"{BITS.name}: the sections aren't those of {SECTIONS.name}")
-    return {name: found[name] for name in sections_in(text)}
+    found["all"] = sum(found[name] for name in meant)
+    return {name: found[name] for name in names}
+
+
+def bits() -> dict[str, int]:
+    """The sections and their bits as the crates have them."""
+    return bits_in(BITS.read_text("utf-8"), SECTIONS.read_text("utf-8"))
 
 
 def codes_in(numbers: str, declared: str) -> list[str]:

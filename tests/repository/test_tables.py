@@ -11,7 +11,7 @@ from tables.__main__ import difference, main
 from tables.made import made
 from tables.options import Option
 from tables.parts import part, whole, words
-from tables.sources import TOP, Unreadable, codes_in, program_in, sections_in
+from tables.sources import TOP, Unreadable, bits_in, codes_in, program_in, sections_in
 from tables.words import OPTIONS, Words, described, filled
 
 SOURCE = sources.OPTIONS.read_text("utf-8")
@@ -140,6 +140,19 @@ class Sources(unittest.TestCase):
         self.assertEqual(list(bits.values()), [1 << place for place in range(len(bits))])
         with self.assertRaises(Unreadable):
             sections_in(re.sub(r'\|\| name == "\w+"', "", text, count=1))
+
+    def test_bits(self) -> None:
+        request = sources.BITS.read_text("utf-8")
+        sections = sources.SECTIONS.read_text("utf-8")
+        self.assertEqual(bits_in(request, sections), sources.bits())
+        for wrong in (
+            (request.replace("bits / 4 % 2", "bits / 4 % 3"), sections),
+            (request, sections.replace('has_name(text, "all");', "false;")),
+            (request, sections.replace(" || has_name", " | has_name")),
+        ):
+            self.assertNotEqual(wrong, (request, sections))
+            with self.assertRaises(Unreadable):
+                bits_in(*wrong)
 
     def test_codes(self) -> None:
         numbers, declared = (path.read_text("utf-8") for path in (sources.NUMBERS, sources.FAULTS))
