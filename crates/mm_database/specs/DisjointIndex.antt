@@ -49,7 +49,8 @@ abbrev pub Covers : BlockLists → List (ℕ × ℕ) → ℕ → ℕ → Type 0
 Covers blocks ps from q =
     (p : ℕ) → from ≤ p → p ≤ q → IsCovered blocks (get_or ps p (0, 0)) (get_or ps q (0, 0))
 
--- for each pair an index from which on it covers the pairs up to it
+-- For each pair an index from which on it covers the pairs up to it. If the block of the pair is
+-- closed, so are the blocks of those, and a search passes over all of them.
 pub record AreSkips (blocks : BlockLists) (ps : List (ℕ × ℕ)) (skips : List ℕ) : Type 0 where
   pub count : length skips ≡ length ps
   pub within : (q : ℕ) → q < length ps → get_or skips q 0 ≤ q

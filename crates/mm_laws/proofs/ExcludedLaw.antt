@@ -7,7 +7,7 @@ use Rattle.mm_spec.specs.Laws.Complete.{HasCompleteFrame}
 use Rattle.mm_spec.proofs.StackStepsLaw.{AreGood}
 use Rattle.mm_spec.proofs.StepsLaw.{forest_labels_are_good, StoppedSteps}
 use Rattle.mm_spec.proofs.CheckedLaw.{expansion_grows, expansions_are_equal}
-use Rattle.mm_laws.proofs.ExactLaw.{IsPostfixOfForest, stopped_no_forest}
+use Rattle.mm_laws.proofs.StackRunLaw.{IsPostfixOfForest, stopped_no_forest}
 
 module _ (c : Context) (all_complete : (l : ℕ) → HasCompleteFrame c (c.referent l)) where
   -- the expansion of a front

@@ -1,9 +1,9 @@
 -- All bodies are empty, so the answer of each clause is a lemma. Existence goes from `verdict`
 -- (`JudgedLaw.antt`: a derivation, a step fault or an end fault exists) to `is_valid_or_faulty`
 -- (`TheoremLaw.antt`), `is_sound_or_faulty` (`SomeFaultLaw.antt`) and `output_exists_for_text`
--- (`SomeOutputLaw.antt`). Uniqueness goes from `stopped_no_forest` (`ExactLaw.antt`) to `excludes`
--- (`ExcludedLaw.antt`), `no_both_faults`, `proof_fault_is_unique` and `output_is_unique_for_text`
--- (`OneOutputLaw.antt`). Letters have `spelled_items_are_unique` (`SpellingLaw.antt`).
+-- (`SomeOutputLaw.antt`). Uniqueness goes from `stopped_no_forest` (`StackRunLaw.antt`) to
+-- `excludes` (`ExcludedLaw.antt`), `no_both_faults`, `proof_fault_is_unique` and
+-- `output_is_unique_for_text` (`OneOutputLaw.antt`). Letters have `spelled_items_are_unique` (`SpellingLaw.antt`).
 -- `variables_are_typed_where_read` and
 -- `variables_are_mandatory_where_read` (`TypedLaw.antt`) are about frames. `valid_iff_proved`
 -- (`MeaningLaw.antt`) combines the laws on well formed proofs and on what steps are. What is said
@@ -24,7 +24,7 @@ pub mod LinesExamplesLaw
 pub mod ToldLaw
 pub mod SpelledLinesLaw
 pub mod GrammarLaw
-pub mod ExactLaw
+pub mod StackRunLaw
 pub mod ExcludedLaw
 pub mod JudgedLaw
 pub mod OneOutputLaw

@@ -34,7 +34,7 @@ use Rattle.mm_spec.specs.Output.{HasNoFault, theorems, columns, open_theorem_cou
 use Rattle.mm_spec.specs.Output.{AreCited, IsCitingRowOf, told_lines, IsReportOf, IsOutput}
 use Rattle.mm_spec.specs.Assertion.{label_at}
 use Rattle.mm_spec.specs.Laws.Stack.{IsCompleteReferent}
-use Rattle.mm_laws.proofs.ExactLaw.{step_stops_if_fails}
+use Rattle.mm_laws.proofs.StackRunLaw.{step_stops_if_fails}
 use Rattle.mm_spec.specs.Laws.Complete.{HasCompleteFrame, AreComplete}
 use Rattle.mm_spec.specs.Opened.{open_as_axioms}
 use Rattle.mm_spec.proofs.CompleteLaw.{reads_complete}

@@ -14,8 +14,8 @@ module _ (text : List ℕ) where
     pub begins : begins_word text start ≡ true
     pub none_before_start : (i : ℕ) → from ≤ i → i < start → begins_word text i ≡ false
 
-  -- A word begins at `start`, which isn't before the block at `base`, and of the words those that
-  -- begin before `from`, the place after `start`, have been taken or left out.
+  -- The scanner has taken the word that begins at `start`. This isn't before the scanner's block of
+  -- 64 bytes, which begins at `base`. The scanner goes on at `from`, the place after `start`.
   pub record IsTaken (base from start : ℕ) : Type 0 where
     pub from_is_next : from ≡ start + 1
     pub base_le_start : base ≤ start

@@ -78,7 +78,9 @@ pub enum Transition {
     Complete(Outline),
 }
 
-/// What the token with the index `token_index` does, which has the class `class`.
+/// What the token with the index `token_index` does to a statement of which `part` has been read,
+/// where `depth` blocks are open. The class of the token is `class`. `is_label` says whether its
+/// word may be a label, and means something at the beginning of a statement alone.
 #[tactic(auto, using(crate::proofs::BetweenLaw::between_with_one_more))]
 fn transition_for(
     _text: &[u8],

@@ -1,4 +1,5 @@
--- What rows of bits say of chains of citations.
+-- What rows of bits say of chains of citations. A word is 64 bits of a row here, no word of the
+-- text.
 use Rattle.std.specs.Prelude.{◌≡◌, ℕ, ◌+◌, ◌*◌, slice_range, ◌<◌, ◌≤◌, Bool, false, List, map}
 use Rattle.std.specs.Prelude.{length, slice_index, Decides}
 use Rattle.std.specs.List.{range_with_len}
@@ -18,8 +19,7 @@ pub record IsBitRow (c : Citing) (axioms : List ℕ) (t : ℕ) (row : List ℕ) 
 abbrev pub row_at : List ℕ → ℕ → ℕ → List ℕ
 row_at bits width r = slice_range bits (r * width) (r * width + width)
 
--- among the words of all rows, that of statement t is known, if it is a theorem; a row has `width`
--- words
+-- if statement t is a theorem, its row, which is `width` words of `bits`, is its bits
 abbrev pub IsRowKnown : Citing → List ℕ → List ℕ → ℕ → ℕ → Type 0
 IsRowKnown c axioms bits width t =
     (r : ℕ) → r < length c.theorems → theorem_at c r ≡ t
@@ -31,7 +31,7 @@ pub record AreBitRows (c : Citing) (axioms : List ℕ) (n : ℕ) (bits : List �
   pub each_is_bit_row : (r : ℕ) → r < n
       → IsBitRow c axioms (theorem_at c r) (row_at bits (words_for (length axioms)) r)
 
--- where the row of statement t ends is known, if it is a theorem; a row has `width` words
+-- if statement t is a theorem, `ends` says where its row ends; a row is `width` words of `bits`
 abbrev pub IsEndKnown : Citing → List ℕ → List ℕ → ℕ → ℕ → Type 0
 IsEndKnown c bits ends width t =
     (r : ℕ) → r < length c.theorems → theorem_at c r ≡ t

@@ -151,13 +151,15 @@ impl<'a, A: Allocator + Copy> Scope<'a, A> {
         }
     }
 
-    /// Returns what is wrong with a word as a symbol of a `$c`, `$v` or `$d`. `repeated` says
-    /// whether it occurs earlier in the statement.
+    /// Returns what is wrong with a word as one of the symbols that a `$c`, `$v` or `$d` lists.
+    /// `repeated` says whether it occurs earlier in the statement.
     pub(crate) fn listed_code(&self, kind: Kind, word: &[u8], repeated: bool) -> Option<Code>
         ensures { (earlier : List (List ℕ))
             → repeated ≡ is_in word.now earlier
             → IsLeastCode self.now (λ n. listed_codes n kind earlier word.now) result }
     {
+        // A `$c` may declare no symbol again. A `$v` may declare again a variable that isn't
+        // active.
         let (is_declared, is_active) = match self.names.symbol(word) {
             Some(symbol) => {
                 let is_active = self.is_active(symbol);

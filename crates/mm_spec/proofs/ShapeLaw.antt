@@ -9,7 +9,7 @@ use Rattle.mm_spec.specs.Text.{Bytes, has_dollar}
 use Rattle.mm_spec.specs.Laws.Table.{Class, constant_keyword, variable_keyword, disjoint_keyword}
 use Rattle.mm_spec.specs.Laws.Table.{floating_keyword, essential_keyword, axiom_keyword}
 use Rattle.mm_spec.specs.Laws.Table.{theorem_keyword, equals, dot, open_block, close_block, plain}
-use Rattle.mm_spec.specs.Laws.Table.{other, ClassedWord, lookup, class}
+use Rattle.mm_spec.specs.Laws.Table.{other, ClassedWord, class_in, class}
 use Rattle.mm_spec.specs.Statement.{Statement, is_complete, is_opening, is_closing, AreStatements}
 
 -- the word is as the class requires
@@ -28,14 +28,14 @@ Meaning close_block w = w ≡ codes "$}"
 Meaning plain w = has_dollar w ≡ false
 Meaning other w = Unit {0}
 
-lookup_has_meaning : (es : List ClassedWord) (w : Bytes)
-    → AllByRecursion (λ e. w ≡ e.word → Meaning e.class w) es → Meaning (lookup es w) w
-lookup_has_meaning [] w entries_tell = tt
-lookup_has_meaning (e ∷ es) w entries_tell =
-    grind (arith, common_steps, bytes_eq-Decides, lookup_has_meaning es w entries_tell.1)
+class_in_has_meaning : (es : List ClassedWord) (w : Bytes)
+    → AllByRecursion (λ e. w ≡ e.word → Meaning e.class w) es → Meaning (class_in es w) w
+class_in_has_meaning [] w entries_tell = tt
+class_in_has_meaning (e ∷ es) w entries_tell =
+    grind (arith, common_steps, bytes_eq-Decides, class_in_has_meaning es w entries_tell.1)
 
 pub class_has_meaning : (w : Bytes) → Meaning (class w) w
-class_has_meaning w = search (rules, arith, lookup_has_meaning)
+class_has_meaning w = search (rules, arith, class_in_has_meaning)
 
 -- a list after which so many blocks are open
 pub record Balanced (d : ℕ) (list : List Statement) : Type 0 where

@@ -129,8 +129,8 @@ pub record AreShifted (Rests RestsInOther : ℕ → ℕ → Type 0) (only : Opti
       × (¬ RestsThere RestsInOther s n a t))
 
 -- the same by the citations of both
-abbrev pub AreOnlyThere : Request → Side → ℕ → Side → List ℕ → Type 0
-AreOnlyThere request s n t list =
+abbrev pub AreOnlyHere : Request → Side → ℕ → Side → List ℕ → Type 0
+AreOnlyHere request s n t list =
     AreShifted (RestsOn s.statements request.essential) (RestsOn t.statements request.essential)
     request.only s t n list
 
@@ -138,7 +138,7 @@ AreOnlyThere request s n t list =
 abbrev pub IsShiftRowOf : Request → Side → Side → ℕ → CitingRow → Type 0
 IsShiftRowOf request s t n r =
     (r.label ≡ label_at s.statements n)
-    × ((list : List ℕ) × AreOnlyThere request s n t list
+    × ((list : List ℕ) × AreOnlyHere request s n t list
     × (r.cited ≡ map (label_at s.statements) list))
 
 -- the line of a row, if it has some axiom

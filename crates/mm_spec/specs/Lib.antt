@@ -1,3 +1,4 @@
+-- In the order in which they are to be read (docs/DEFINITIONS.md). `Laws` needn't be believed.
 pub mod Bytes
 pub mod Limits
 pub mod Text

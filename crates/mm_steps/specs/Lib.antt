@@ -1,2 +1,2 @@
 pub mod TheoremSteps
-pub mod Flags
+pub mod StoredSteps

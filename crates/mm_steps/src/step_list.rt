@@ -17,7 +17,7 @@ pub enum Step {
     Marked(u32),
 }
 
-/// What the referent of a step is: a statement, or an earlier step.
+/// What the number of a step counts: statements, or steps.
 #[derive(Clone, Copy, Drop)]
 enum StepKind {
     Label,
@@ -30,7 +30,7 @@ enum StepKind {
 struct Placed {
     at: u32,
     /// The number of a statement or of an earlier step.
-    referent: u32,
+    number: u32,
     kind: StepKind,
     is_marked: bool,
 }
@@ -47,13 +47,13 @@ pub struct Steps<A: Allocator> {
 
 impl<A: Allocator> Model for Steps<A> {
     ghost use Rattle.mm_steps.specs.TheoremSteps.{TheoremSteps, theorem_steps};
-    ghost use Rattle.mm_steps.specs.Flags.{placed_steps, AreFlags};
+    ghost use Rattle.mm_steps.specs.StoredSteps.{placed_steps, TellWhichAreMarked};
 
     ghost Value = { TheoremSteps };
 
     ghost view = { λ s. theorem_steps s.theorem (placed_steps s.steps.items) };
 
-    ghost invariant = { λ s. AreFlags s.steps.items };
+    ghost invariant = { λ s. TellWhichAreMarked s.steps.items };
 }
 
 impl<A: Allocator> Steps<A> {
@@ -83,14 +83,14 @@ impl<A: Allocator> Steps<A> {
         match step {
             Step::Label(statement) => self.steps.push(Placed {
                 at,
-                referent: statement,
+                number: statement,
                 kind: StepKind::Label,
                 is_marked: false,
             })?,
             Step::Marked(earlier) => {
                 self.steps.push(Placed {
                     at,
-                    referent: earlier,
+                    number: earlier,
                     kind: StepKind::Marked,
                     is_marked: false,
                 })?;
@@ -121,8 +121,8 @@ impl<A: Allocator> Steps<A> {
     {
         let placed = self.steps[i];
         match placed.kind {
-            StepKind::Label => Step::Label(placed.referent),
-            StepKind::Marked => Step::Marked(placed.referent),
+            StepKind::Label => Step::Label(placed.number),
+            StepKind::Marked => Step::Marked(placed.number),
         }
     }
 

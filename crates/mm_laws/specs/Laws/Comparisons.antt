@@ -13,7 +13,7 @@ use Rattle.mm_spec.specs.Citation.{RestsOn}
 use Rattle.mm_spec.specs.Output.{columns, theorems}
 use Rattle.mm_spec.specs.Request.{Request}
 use Rattle.mm_spec.specs.Comparison.{Side, number_of, says_same, is_there, only_in}
-use Rattle.mm_spec.specs.Comparison.{AreDifferences, AreOnlyThere, RestsThere, differences}
+use Rattle.mm_spec.specs.Comparison.{AreDifferences, AreOnlyHere, RestsThere, differences}
 
 -- a hypothesis as words: whether it is a `$f`, and its symbols
 pub record InWords : Type 0 where
@@ -56,7 +56,7 @@ HasAllOfItself = (s : Side) (only : Option Bytes) → only_in s only s ≡ []
 abbrev pub RestsOnNothingMore : Type 0
 RestsOnNothingMore =
     (request : Request) (s : Side) (n : ℕ) (list : List ℕ)
-    → is_member (theorems s.statements) n ≡ true → AreOnlyThere request s n s list → list ≡ []
+    → is_member (theorems s.statements) n ≡ true → AreOnlyHere request s n s list → list ≡ []
 
 -- each assertion of the one, or each with the typecode if one is chosen, is either in the other or
 -- listed
@@ -80,7 +80,7 @@ ExchangedTextsExchangeSections =
 abbrev pub RestsOnNothingThatIsNotGained : Type 0
 RestsOnNothingThatIsNotGained =
     (request : Request) (old new : Side) (n a : ℕ) (gained : List ℕ)
-    → AreOnlyThere request new n old gained
+    → AreOnlyHere request new n old gained
     → is_member (columns new.statements request.only) a ≡ true → is_member gained a ≡ false
     → ¬ RestsThere (RestsOn old.statements request.essential) new n a old
     → ¬ RestsOn new.statements request.essential n a

@@ -1,5 +1,6 @@
--- What is expected token by token, the statements of a list of tokens, and the fault of its shape.
--- The table is this project's own; its statements are those of the Metamath book, "Basic Syntax".
+-- Which tokens are expected where (the table of transitions), the statements of a list of tokens,
+-- and the fault of its shape. The table is this project's own; its statements are those of the
+-- Metamath book, "Basic Syntax".
 use Rattle.std.specs.Prelude.{ℕ, zero, suc, Bool, true, false, List, [], ◌∷◌, ◌++◌, codes, bytes_eq}
 use Rattle.std.specs.Prelude.{Option, None, Some}
 use Rattle.mm_spec.specs.Text.{Bytes, Token, Fault, fault, has_dollar, is_label}
@@ -20,8 +21,9 @@ pub record ClassedWord : Type 0 where
 abbrev pub classed : Bytes → Class → ClassedWord
 classed w k = record { word = w; class = k }
 
-abbrev pub table : List ClassedWord
-table =
+-- the keywords that can be expected, each with its class
+abbrev pub keyword_classes : List ClassedWord
+keyword_classes =
     classed (codes "$c") constant_keyword
     ∷ classed (codes "$v") variable_keyword
     ∷ classed (codes "$d") disjoint_keyword
@@ -36,17 +38,17 @@ table =
     ∷ []
 
 -- the class of the first entry with this word
-abbrev pub lookup : List ClassedWord → Bytes → Class
-lookup [] w = other
-lookup (e ∷ es) w = elim (bytes_eq w e.word) [ true ↦ e.class | false ↦ lookup es w ]
+abbrev pub class_in : List ClassedWord → Bytes → Class
+class_in [] w = other
+class_in (e ∷ es) w = elim (bytes_eq w e.word) [ true ↦ e.class | false ↦ class_in es w ]
 
 -- the class of a word that has a `$`
-abbrev pub keyword : Bytes → Class
-keyword w = lookup table w
+abbrev pub keyword_class : Bytes → Class
+keyword_class w = class_in keyword_classes w
 
 -- the class of a word
 abbrev pub class : Bytes → Class
-class w = elim (has_dollar w) [ true ↦ keyword w | false ↦ plain ]
+class w = elim (has_dollar w) [ true ↦ keyword_class w | false ↦ plain ]
 
 -- what has been read of a statement; `depth` is the number of open blocks
 pub data Progress : Type 0 where

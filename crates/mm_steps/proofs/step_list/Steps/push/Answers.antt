@@ -5,9 +5,9 @@ use Rattle.mm_spec.specs.Steps.{placed}
 use Rattle.mm_steps.specs.declared.step_list.Placed.{Placed}
 use Rattle.mm_steps.specs.declared.step_list.StepKind.TheVariants.{Marked}
 use Rattle.mm_steps.specs.TheoremSteps.{theorem_steps, as_step, IsEarlier}
-use Rattle.mm_steps.specs.Flags.{placed_steps, placed_of, no_step}
-use Rattle.mm_steps.proofs.FlagsLaw.{flags_with_marked_step, placed_steps_unchanged_by_set}
-use Rattle.mm_steps.proofs.FlagsLaw.{placed_steps_push}
+use Rattle.mm_steps.specs.StoredSteps.{placed_steps, placed_of, no_step}
+use Rattle.mm_steps.proofs.StoredStepsLaw.{flags_with_marked_step, placed_steps_unchanged_by_set}
+use Rattle.mm_steps.proofs.StoredStepsLaw.{placed_steps_push}
 use Rattle.mm_steps.proofs.step_list.Steps.push.Goals as goal
 
 pub invariant_of-self-in-Marked : goal.invariant_of-self-in-Marked
@@ -17,7 +17,7 @@ invariant_of-self-in-Marked g c =
     let marked_step = c.in-Marked.earlier in
     let old_entry = c.index_mut.result.now in
     let entry : Placed =
-    record { at = c.args.at; referent = marked_step; kind = Marked; is_marked = false } in
+    record { at = c.args.at; number = marked_step; kind = Marked; is_marked = false } in
     let is_pushed : pushed ≡ stored ++ entry ∷ [] = c.in_ok-push-in-Marked.ensures.items in
     let is_earlier : marked_step < length c.args.self.now.steps =
     subst (λ s. IsEarlier (as_step s) (length c.args.self.now.steps)) c.in-Marked.is c.requires in
@@ -41,7 +41,7 @@ returns-in_ok-push-in-Marked-clause-step_is_added g c =
     let marked_step = c.in-Marked.earlier in
     let old_entry = c.index_mut.result.now in
     let entry : Placed =
-    record { at = c.args.at; referent = marked_step; kind = Marked; is_marked = false } in
+    record { at = c.args.at; number = marked_step; kind = Marked; is_marked = false } in
     let is_pushed : pushed ≡ stored ++ entry ∷ [] = c.in_ok-push-in-Marked.ensures.items in
     let is_earlier : marked_step < length c.args.self.now.steps =
     subst (λ s. IsEarlier (as_step s) (length c.args.self.now.steps)) c.in-Marked.is c.requires in

@@ -1,4 +1,5 @@
--- The stack is exact in both directions, and the labels determine the forest.
+-- The labels of a forest are all performed. Where the step of a label fails, that is told with its
+-- reason, and then the labels are those of no forest.
 use Rattle.std.proofs.Common.{◌≡◌, ℕ, suc, ◌+◌, ◌-◌, true, List, [], ◌∷◌, ◌++◌, map, length, take}
 use Rattle.std.proofs.Common.{drop, Option, Some, None, Ok, Err, nat_le, sym, ap, ap₂, ◌∙◌, subst}
 use Rattle.std.proofs.Common.{append-nil, arith, le-leb, rules}

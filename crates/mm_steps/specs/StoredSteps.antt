@@ -14,7 +14,7 @@ step_by Marked n = marked n
 
 -- the step that a stored one stands for
 abbrev pub placed_of : Placed → PlacedStep
-placed_of p = placed p.at (step_by p.kind p.referent)
+placed_of p = placed p.at (step_by p.kind p.number)
 
 -- the steps that the stored ones stand for
 abbrev pub placed_steps : List Placed → List PlacedStep
@@ -22,8 +22,8 @@ placed_steps ps = map placed_of ps
 
 -- what is taken for a step past the last one
 abbrev pub no_step : Placed
-no_step = record { at = 0; referent = 0; kind = Label; is_marked = false }
+no_step = record { at = 0; number = 0; kind = Label; is_marked = false }
 
 -- each step's flag says whether the step is marked, and past the last step none is
-abbrev pub AreFlags : List Placed → Type 0
-AreFlags ps = (i : ℕ) → (get_or ps i no_step).is_marked ≡ is_marked (placed_steps ps) i
+abbrev pub TellWhichAreMarked : List Placed → Type 0
+TellWhichAreMarked ps = (i : ℕ) → (get_or ps i no_step).is_marked ≡ is_marked (placed_steps ps) i

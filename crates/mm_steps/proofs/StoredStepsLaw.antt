@@ -9,7 +9,8 @@ use Rattle.mm_spec.specs.Steps.{marked}
 use Rattle.mm_spec.proofs.BoolLaw.{or_with_false}
 use Rattle.mm_steps.specs.declared.step_list.Placed.{Placed}
 use Rattle.mm_steps.specs.TheoremSteps.{is_marked, repeats}
-use Rattle.mm_steps.specs.Flags.{step_by, placed_of, placed_steps, no_step, AreFlags}
+use Rattle.mm_steps.specs.StoredSteps.{step_by, placed_of, placed_steps, no_step}
+use Rattle.mm_steps.specs.StoredSteps.{TellWhichAreMarked}
 
 -- a step that is stored as before changes no other
 pub placed_steps_unchanged_by_set : (ps : List Placed) (j : ℕ) (q : Placed)
@@ -43,18 +44,18 @@ or_false_at_end false false = refl
 -- what one more step marks
 marked_by_one_more : (ps : List Placed) (p : Placed) (i : ℕ)
     → is_marked (placed_steps (ps ++ p ∷ [])) i
-    ≡ (is_marked (placed_steps ps) i || repeats i (step_by p.kind p.referent))
+    ≡ (is_marked (placed_steps ps) i || repeats i (step_by p.kind p.number))
 marked_by_one_more ps p i =
     ap (λ z. is_marked z i) (placed_steps_push ps p)
     ∙ list_any-append (λ s. repeats i s.step) (placed_steps ps) (placed_of p ∷ [])
-    ∙ or_false_at_end (is_marked (placed_steps ps) i) (repeats i (step_by p.kind p.referent))
+    ∙ or_false_at_end (is_marked (placed_steps ps) i) (repeats i (step_by p.kind p.number))
 
 -- one more step, which repeats the subproof of step j, and the flag of step j
-pub flags_with_marked_step : (ps qs : List Placed) (p q : Placed) (j : ℕ) → AreFlags ps
+pub flags_with_marked_step : (ps qs : List Placed) (p q : Placed) (j : ℕ) → TellWhichAreMarked ps
     → qs ≡ ps ++ p ∷ []
-    → p.is_marked ≡ false → step_by p.kind p.referent ≡ marked j → j < length ps
+    → p.is_marked ≡ false → step_by p.kind p.number ≡ marked j → j < length ps
     → placed_of q ≡ placed_of (get_or qs j no_step) → q.is_marked ≡ true
-    → AreFlags (slice_set qs j q)
+    → TellWhichAreMarked (slice_set qs j q)
 flags_with_marked_step ps qs p q j old_flags is_appended not_marked repeats_j j_lt_length
     steps_equal
     q_is_marked i =
