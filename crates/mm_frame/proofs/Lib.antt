@@ -6,8 +6,9 @@
 -- (`ChainsLaw.antt`) give the `$d` by variables. `row_with_pair` and `row_without_pair`
 -- (`DisjointRowsLaw.antt`) make the rows of the narrow ones, and `rows_of_all` says that they are
 -- those of all symbols. With `have_blocks` of `mm_database` they give `IsDisjointIndex`.
--- `pairs_are_mandatory_pairs` (`MandatoryPairsLaw.antt`) gives the pairs. `wide_are_listed` and `rows_are_listed` (`SymbolFactsLaw.antt`) say that only variables
--- that may be in an active `$d` need be looked up.
+-- `pairs_are_mandatory_pairs` (`MandatoryPairsLaw.antt`) gives the pairs. `wide_are_listed` and
+-- `rows_are_listed` (`SymbolFactsLaw.antt`) say that only variables that may be in an active `$d`
+-- need be looked up.
 -- `same_frame` (`NeighboursLaw.antt`) says when an assertion has the frame of the one before it,
 -- and `same_scope_of_latest` when the same `$d`, `$e` and `$f` are active at both.
 -- (`SkipsLaw.antt`: the loops of `skips_of`; `LoopsLaw.antt`: one more element in the loops that

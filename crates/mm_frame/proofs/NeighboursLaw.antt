@@ -85,15 +85,15 @@ module _ (db : List Statement) where
       → (list_any is_essential (statement_at db j) ≡ false)
       × (list_any is_floating (statement_at db j) ≡ false)
       × (list_any is_disjoint_statement (statement_at db j) ≡ false)
-  other_tests j is_other = at (slice_get db j) is_other
+  other_tests j is_other = by_statement (slice_get db j) is_other
     where
-      at : (o : Option Statement)
+      by_statement : (o : Option Statement)
           → list_any is_frame_part (elim o [ None ↦ [] | Some s ↦ s ∷ [] ]) ≡ false
           → (list_any is_essential (elim o [ None ↦ [] | Some s ↦ s ∷ [] ]) ≡ false)
           × (list_any is_floating (elim o [ None ↦ [] | Some s ↦ s ∷ [] ]) ≡ false)
           × (list_any is_disjoint_statement (elim o [ None ↦ [] | Some s ↦ s ∷ [] ]) ≡ false)
-      at None fails = (refl, refl, refl)
-      at (Some s) fails =
+      by_statement None fails = (refl, refl, refl)
+      by_statement (Some s) fails =
           let tests = other_is_no_part s (sym (or-false (is_frame_part s)) ∙ fails) in (
             or-false (is_essential s) ∙ tests.0,
             or-false (is_floating s) ∙ tests.1,
@@ -103,13 +103,13 @@ module _ (db : List Statement) where
   -- such a statement is active where its block is open
   part_active : (j k : ℕ) → j < k → list_any is_frame_part (statement_at db j) ≡ true
       → active_at db j k ≡ is_block_open db j k
-  part_active j k j_lt_k is_part = at (slice_get db j) is_part
+  part_active j k j_lt_k is_part = by_statement (slice_get db j) is_part
     where
-      at : (o : Option Statement)
+      by_statement : (o : Option Statement)
           → list_any is_frame_part (elim o [ None ↦ [] | Some s ↦ s ∷ [] ]) ≡ true
           → (nat_lt j k && is_some_still_active o (is_block_open db j k)) ≡ is_block_open db j k
-      at None passes = absurd (true≢false (sym passes))
-      at (Some s) passes =
+      by_statement None passes = absurd (true≢false (sym passes))
+      by_statement (Some s) passes =
           ap (λ c. c && is_still_active s (is_block_open db j k)) (lt-ltb j k j_lt_k)
           ∙ part_local s (is_block_open db j k) (sym (or-false (is_frame_part s)) ∙ passes)
 
@@ -305,19 +305,19 @@ module _ {A : Type 0} (db : List Statement) (from k : ℕ) (s : Scratch A) where
   -- after an assertion
   pub ready_after_assertion : (t : Scratch A) → t.previous ≡ k → from ≤ k
       → list_any is_assertion (statement_at db k) ≡ true → AreEssentialLists db k t.essential_lists
-      → IsFresh (length (symbol_names db)) (k + 1) t.lists.marks.items
+      → IsFresh (length (symbol_names db)) (k + 1) t.lists.stamps.items
       → ((x : ℕ)
       → is_member t.previous_further.items x ≡ is_further db k t.essential_lists.variables.items x)
       → IsReady db from (k + 1) t
-  ready_after_assertion t previous_is from_le_k is_one lists marks_are_fresh
+  ready_after_assertion t previous_is from_le_k is_one lists frame_stamps_are_fresh
       further_are =
       record {
-        stamps_are_fresh = record {
+        essential_stamps_are_fresh = record {
           count = lists.are_stamps.count;
           stamps_le_stamp = λ x x_lt_n. let le_stamp = lists.are_stamps.stamps_le_stamp x x_lt_n in
               let stamp_le = lists.stamp_le in omega (arith, le_stamp, stamp_le);
         };
-        marks_are_fresh = marks_are_fresh;
+        frame_stamps_are_fresh = frame_stamps_are_fresh;
         previous_is_assertion = λ is_some. (
           omega (arith, previous_is, from_le_k),
           omega (arith, previous_is),

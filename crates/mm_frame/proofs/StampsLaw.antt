@@ -15,11 +15,11 @@ pub stamps_with_symbol : (n stamp : ℕ) (stamps variables : List ℕ) (s : ℕ)
 stamps_with_symbol n stamp stamps variables s are_stamps s_lt_n =
     grind (arith, common_steps, length-set, member_push)
 
--- with a new stamp none is marked
-pub fresh_stamps_mark_none : (n k : ℕ) (stamps variables : List ℕ) → length stamps ≡ n
+-- none has a new stamp
+pub fresh_stamps_are_of_none : (n k : ℕ) (stamps variables : List ℕ) → length stamps ≡ n
     → ((x : ℕ) → x < n → get_or stamps x 0 ≤ k) → variables ≡ []
     → AreStamps n (k + 1) stamps variables
-fresh_stamps_mark_none n k stamps variables length_is_n stamps_le_k variables_are_none =
+fresh_stamps_are_of_none n k stamps variables length_is_n stamps_le_k variables_are_none =
     grind (arith, common_steps)
 
 -- a symbol that has been noted already, one that is new, and one that is no variable

@@ -12,7 +12,7 @@ use Rattle.mm_database.specs.ParsedStatements.{typed_variable_at}
 pub record AreStamps (n stamp : ℕ) (stamps variables : List ℕ) : Type 0 where
   pub count : length stamps ≡ n
   pub stamps_le_stamp : (x : ℕ) → x < n → slice_index stamps x ≤ stamp
-  pub marked_is_member : (x : ℕ) → x < n
+  pub stamp_tells_member : (x : ℕ) → x < n
       → nat_eq (slice_index stamps x) stamp ≡ is_member variables x
 
 -- none of n symbols has a later stamp

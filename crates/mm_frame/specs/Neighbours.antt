@@ -50,8 +50,9 @@ module _ {A : Type 0} where
 
   -- what a walk from statement `from` on keeps from one assertion to the next, before statement k
   pub record IsReady (db : List Statement) (from k : ℕ) (s : Scratch A) : Type 0 where
-    pub stamps_are_fresh : IsFresh (length (symbol_names db)) k s.essential_lists.stamps.items
-    pub marks_are_fresh : IsFresh (length (symbol_names db)) k s.lists.marks.items
+    pub essential_stamps_are_fresh : IsFresh (length (symbol_names db)) k
+        s.essential_lists.stamps.items
+    pub frame_stamps_are_fresh : IsFresh (length (symbol_names db)) k s.lists.stamps.items
     pub previous_is_assertion : s.previous ≢ never
         → (from ≤ s.previous) × (s.previous < k)
         × (list_any is_assertion (statement_at db s.previous) ≡ true)

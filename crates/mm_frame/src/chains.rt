@@ -1,6 +1,6 @@
 //! The `$d` statements of each symbol, found without a sort: a walk over the statements from the
 //! last to the first puts each `$d` in front of the chains of its symbols. So each chain is in
-//! ascending order.
+//! ascending order. These chains are no chains of citations.
 
 ghost use Rattle.std.specs.Prelude.{◌≡◌, ◌≢◌, ◌<◌, ◌≤◌, ◌-◌, ◌++◌, ℕ, IfOk, OnOk};
 ghost use Rattle.std.specs.Prelude.{◌&&◌, All, List, length, map, get_or, nat_eq, nat_lt, true};
@@ -137,7 +137,7 @@ pub(crate) fn chains_of<A: Allocator + Copy>(
     Ok(chains)
 }
 
-/// Appends the symbol with each statement of the chain that begins at a link.
+/// Appends the symbol with each statement of its chain, in order.
 pub(crate) fn add_chain<A: Allocator>(
     chains: &Chains<A>,
     symbol: u32,

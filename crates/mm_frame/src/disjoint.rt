@@ -1,5 +1,11 @@
 //! The mandatory pairs of disjoint variables of assertions.
+//!
 //! Here `at` is the number of the statement at which something is active, not a place of the text.
+//! A `$d` of at most 16 symbols is narrow, and another one is wide. The stamp of an assertion is 1
+//! more than the number of its statement, and `stamps` has for each symbol the last stamp that it
+//! was given. So a symbol is one of the variables of an assertion if it has the assertion's stamp.
+//! The disjoint end of a symbol is the last of the ends of the blocks of all `$d` that have it
+//! (`symbol_facts.rt`).
 
 ghost use Rattle.std.specs.Prelude.{◌≡◌, ◌<◌, ◌+◌, ◌&&◌, ◌||◌, ℕ, OnOk, IfOk, All, length};
 ghost use Rattle.std.specs.Prelude.{get_or, map, nat_eq, nat_le, nat_lt, slice_index};
@@ -164,13 +170,13 @@ fn add_looked_up<A: Allocator>(
 }
 
 /// Whether a symbol is one of the variables, which have the stamp.
-fn has_stamp(marks: &[u32], stamp: u32, variables: &[Sym], symbol: u32) -> bool
-    requires variables_lt_count { All (λ s. s < length marks.now) variables.now }
-    requires are_stamps { AreStamps (length marks.now) stamp marks.now variables.now }
+fn has_stamp(stamps: &[u32], stamp: u32, variables: &[Sym], symbol: u32) -> bool
+    requires variables_lt_count { All (λ s. s < length stamps.now) variables.now }
+    requires are_stamps { AreStamps (length stamps.now) stamp stamps.now variables.now }
     ensures { result ≡ is_member variables.now symbol }
 {
-    match marks.get(symbol as usize) {
-        Some(mark) => *mark == stamp,
+    match stamps.get(symbol as usize) {
+        Some(last) => *last == stamp,
         None => false,
     }
 }
@@ -180,14 +186,14 @@ fn has_stamp(marks: &[u32], stamp: u32, variables: &[Sym], symbol: u32) -> bool
 fn is_active_higher_pair<A: Allocator>(
     blocks: &Blocks<A>,
     low: u32,
-    marks: &[u32],
+    stamps: &[u32],
     stamp: u32,
     variables: &[Sym],
     at: u32,
     pair: (u32, u32),
 ) -> bool
-    requires variables_lt_count { All (λ s. s < length marks.now) variables.now }
-    requires are_stamps { AreStamps (length marks.now) stamp marks.now variables.now }
+    requires variables_lt_count { All (λ s. s < length stamps.now) variables.now }
+    requires are_stamps { AreStamps (length stamps.now) stamp stamps.now variables.now }
     requires pair_has_block { (pair.1 < length blocks.now.block_of)
         × (get_or blocks.now.block_of pair.1 0 < length blocks.now.ends) }
     ensures { result
@@ -195,7 +201,7 @@ fn is_active_higher_pair<A: Allocator>(
         && (is_member variables.now pair.0 && is_active_local blocks.now pair.1 at)) }
 {
     low < pair.0
-        && has_stamp(marks, stamp, variables, pair.0)
+        && has_stamp(stamps, stamp, variables, pair.0)
         && (pair.1 < at && blocks.is_block_open(pair.1, at))
 }
 
@@ -204,15 +210,15 @@ fn add_walked<A: Allocator>(
     blocks: &Blocks<A>,
     row: &[(u32, u32)],
     low: u32,
-    marks: &[u32],
+    stamps: &[u32],
     stamp: u32,
     variables: &[Sym],
     at: u32,
     pairs: &mut Vec<(u32, u32), A>,
 ) -> Result<(), AllocError>
     requires is_row { IsRow blocks.now row.now }
-    requires variables_lt_count { All (λ s. s < length marks.now) variables.now }
-    requires are_stamps { AreStamps (length marks.now) stamp marks.now variables.now }
+    requires variables_lt_count { All (λ s. s < length stamps.now) variables.now }
+    requires are_stamps { AreStamps (length stamps.now) stamp stamps.now variables.now }
     ensures { OnOk result
         ((x y : ℕ)
         → has_pair pairs.new.items x y
@@ -220,7 +226,7 @@ fn add_walked<A: Allocator>(
         || (nat_eq x low && is_higher_variable_in_row blocks.now row.now low variables.now at y))) }
 {
     for pair in row {
-        if is_active_higher_pair(blocks, low, marks, stamp, variables, at, *pair) {
+        if is_active_higher_pair(blocks, low, stamps, stamp, variables, at, *pair) {
             pairs.push((low, pair.0))?;
         }
     }
@@ -234,7 +240,7 @@ fn add_walked<A: Allocator>(
 fn add_narrow<A: Allocator>(
     blocks: &Blocks<A>,
     disjoint_index: &DisjointIndex<A>,
-    marks: &[u32],
+    stamps: &[u32],
     stamp: u32,
     variables: &[Sym],
     disjoint_variables: &[Sym],
@@ -242,8 +248,8 @@ fn add_narrow<A: Allocator>(
     pairs: &mut Vec<(u32, u32), A>,
 ) -> Result<(), AllocError>
     requires well_formed { IsWellFormed blocks.now disjoint_index.now }
-    requires variables_lt_count { All (λ s. s < length marks.now) variables.now }
-    requires are_stamps { AreStamps (length marks.now) stamp marks.now variables.now }
+    requires variables_lt_count { All (λ s. s < length stamps.now) variables.now }
+    requires are_stamps { AreStamps (length stamps.now) stamp stamps.now variables.now }
     requires higher_are_disjoint_variables { (x y : ℕ)
         → is_higher_variable_in_row blocks.now (row_of disjoint_index.now.rows x) x variables.now
         at y
@@ -260,7 +266,7 @@ fn add_narrow<A: Allocator>(
         let row = disjoint_index.row(*variable);
         let low = variable.number();
         if row.len() <= disjoint_variables.len() {
-            add_walked(blocks, row, low, marks, stamp, variables, at, pairs)?;
+            add_walked(blocks, row, low, stamps, stamp, variables, at, pairs)?;
         } else {
             add_looked_up(blocks, row, low, disjoint_variables, at, pairs)?;
         }
@@ -277,7 +283,7 @@ pub(crate) fn list_pairs<A: Allocator>(
     sources: &FrameSources<A>,
     variables: &[Sym],
     disjoint_variables: &[Sym],
-    marks: &[u32],
+    stamps: &[u32],
     assertion: u32,
     variables_by_statement: &mut Vec<(u32, u32), A>,
     pairs: &mut Vec<(u32, u32), A>,
@@ -290,7 +296,7 @@ pub(crate) fn list_pairs<A: Allocator>(
     requires are_disjoint_variables { AreDisjointVariables sources.now.statements.now.list
         sources.now.statements.now.blocks assertion variables.now disjoint_variables.now }
     requires are_stamps { AreStamps (length (symbol_names sources.now.statements.now.list))
-        (assertion + 1) marks.now variables.now }
+        (assertion + 1) stamps.now variables.now }
     ensures { OnOk result
         (map (λ p. pair p.0 p.1) pairs.new.items
         ≡ mandatory_pairs sources.now.statements.now.list assertion) }
@@ -310,7 +316,7 @@ pub(crate) fn list_pairs<A: Allocator>(
     add_narrow(
         blocks,
         disjoint_index,
-        marks,
+        stamps,
         assertion + 1,
         variables,
         disjoint_variables,

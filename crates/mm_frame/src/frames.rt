@@ -31,7 +31,7 @@ use std::alloc::{AllocError, Allocator};
 /// What an assertion's frame is made of, in lists whose memory is used again for the next one.
 struct FrameLists<A: Allocator> {
     /// For each symbol 1 more than the last assertion for which it is a mandatory variable, or 0.
-    marks: Vec<u32, A>,
+    stamps: Vec<u32, A>,
     /// The mandatory variables.
     variables: Vec<Sym, A>,
     /// Those of them that may be in an active `$d`.
@@ -48,7 +48,7 @@ struct FrameLists<A: Allocator> {
 impl<A: Allocator> Drop for FrameLists<A> {
     fn drop(self) {
         let Self {
-            marks: _,
+            stamps: _,
             variables: _,
             disjoint_variables: _,
             hypotheses: _,
@@ -87,11 +87,11 @@ impl<A: Allocator> Drop for Scratch<A> {
 impl<A: Allocator + Copy> FrameLists<A> {
     /// Returns the lists before the first assertion.
     fn new(alloc: A, symbol_count: u32) -> Result<FrameLists<A>, AllocError>
-        ensures { IfOk result (λ s. (at : ℕ) → IsFresh symbol_count at s.marks.items) }
+        ensures { IfOk result (λ s. (at : ℕ) → IsFresh symbol_count at s.stamps.items) }
     {
-        let marks = filled(alloc, 0, symbol_count)?;
+        let stamps = filled(alloc, 0, symbol_count)?;
         Ok(FrameLists {
-            marks,
+            stamps,
             variables: Vec::new(alloc),
             disjoint_variables: Vec::new(alloc),
             hypotheses: Vec::new(alloc),
@@ -142,12 +142,12 @@ fn list_frame<A: Allocator>(
     requires are_facts { AreSymbolFacts sources.now.statements.now.list
         sources.now.statements.now.blocks assertion facts.now }
     requires are_fresh { IsFresh
-        (length (symbol_names sources.now.statements.now.list)) assertion lists.old.marks.items }
+        (length (symbol_names sources.now.statements.now.list)) assertion lists.old.stamps.items }
     requires are_essential { AreEssentialLists sources.now.statements.now.list assertion
         essential_lists.now }
     ensures are_fresh { OnOk result
         (IsFresh (length (symbol_names sources.now.statements.now.list)) (assertion + 1)
-        lists.new.marks.items) }
+        lists.new.stamps.items) }
     ensures are_mandatory { OnOk result
         (mandatory lists.new.hypotheses.items (map (λ p. pair p.0 p.1) lists.new.pairs.items)
         ≡ mandatory_at sources.now.statements.now.list assertion) }
@@ -156,7 +156,7 @@ fn list_frame<A: Allocator>(
         sources.statements,
         &essential_lists.variables,
         assertion,
-        &mut lists.marks,
+        &mut lists.stamps,
         &mut lists.variables,
     )?;
     list_hypotheses(
@@ -177,7 +177,7 @@ fn list_frame<A: Allocator>(
         sources,
         &lists.variables,
         &lists.disjoint_variables,
-        &lists.marks,
+        &lists.stamps,
         assertion,
         &mut lists.variables_by_statement,
         &mut lists.pairs,
@@ -248,7 +248,7 @@ fn index_from(from: u32, statement: u32) -> u32
     }
 }
 
-/// Lists the active `$e` of an assertion, unless the lists are those of the same scope, and its
+/// Lists the active `$e` of an assertion, unless the same ones are listed already, and its
 /// further variables.
 fn list_further<A: Allocator>(
     sources: &FrameSources<A>,
@@ -286,8 +286,8 @@ fn list_further<A: Allocator>(
     )
 }
 
-/// Adds an assertion with its frame. If it is in the same scope as the assertion before it and has
-/// the same further variables, it has the same frame, which isn't made again.
+/// Adds an assertion with its frame. If the same `$d`, `$e` and `$f` are active as at the assertion
+/// before it, and it has the same further variables, it has the same frame, which isn't made again.
 fn add_assertion<A: Allocator + Copy>(
     alloc: A,
     sources: &FrameSources<A>,

@@ -16,7 +16,7 @@ use mm_outline::blocks::NEVER;
 use mm_outline::symbol::Sym;
 use std::alloc::{AllocError, Allocator};
 
-/// Marks and lists a symbol if it is a variable and isn't marked yet.
+/// Stamps and lists a symbol if it is a variable and doesn't have the stamp yet.
 fn add_variable<A: Allocator>(
     statements: &Statements<A>,
     symbol: Sym,
@@ -46,7 +46,7 @@ fn add_variable<A: Allocator>(
     Ok(())
 }
 
-/// Marks and lists the variables of a formula.
+/// Stamps and lists the variables of a formula.
 fn add_variables<A: Allocator>(
     statements: &Statements<A>,
     symbols: &[Sym],
@@ -73,8 +73,7 @@ fn add_variables<A: Allocator>(
     Ok(())
 }
 
-/// Marks the variables of the `$e` with a stamp, and lists them in `variables`. Replaces what
-/// `variables` has.
+/// Stamps the variables of the `$e`, and lists them in `variables`. Replaces what `variables` has.
 pub(crate) fn list_essential_variables<A: Allocator>(
     statements: &Statements<A>,
     essentials: &[u32],
@@ -156,13 +155,13 @@ pub(crate) fn list_further_variables<A: Allocator>(
     Ok(())
 }
 
-/// Marks the mandatory variables of an assertion, and lists them in `variables`. Replaces what
+/// Stamps the mandatory variables of an assertion, and lists them in `variables`. Replaces what
 /// `variables` has.
 pub(crate) fn list_mandatory_variables<A: Allocator>(
     statements: &Statements<A>,
     essential_variables: &[Sym],
     assertion: u32,
-    marks: &mut Vec<u32, A>,
+    stamps: &mut Vec<u32, A>,
     variables: &mut Vec<Sym, A>,
 ) -> Result<(), AllocError>
     requires few_statements { length statements.now.list < 2 ^ 31 }
@@ -173,10 +172,10 @@ pub(crate) fn list_mandatory_variables<A: Allocator>(
         && list_any (λ j. is_member (formula_at statements.now.list j) x)
         (active_of is_essential statements.now.list assertion)) }
     requires are_fresh { IsFresh
-        (length (symbol_names statements.now.list)) assertion marks.old.items }
+        (length (symbol_names statements.now.list)) assertion stamps.old.items }
     ensures are_stamps { OnOk result
         (AreStamps (length (symbol_names statements.now.list))
-        (assertion + 1) marks.new.items variables.new.items) }
+        (assertion + 1) stamps.new.items variables.new.items) }
     ensures are_mandatory { OnOk result
         ((x : ℕ)
         → is_member variables.new.items x
@@ -184,12 +183,12 @@ pub(crate) fn list_mandatory_variables<A: Allocator>(
 {
     variables.clear();
     let formula = statements.formula(assertion);
-    add_variables(statements, formula, assertion + 1, marks, variables)?;
+    add_variables(statements, formula, assertion + 1, stamps, variables)?;
     add_variables(
         statements,
         essential_variables,
         assertion + 1,
-        marks,
+        stamps,
         variables,
     )
 }

@@ -38,8 +38,8 @@ returns-then-are_same-clause-is_ready g c =
     let ready =
     ready_after_assertion db c.args.from k c.args.scratch.now _ refl
     c.requires.from_le_assertion c.requires.is_assertion c.in_ok-list_further.ensures.are_essential
-    (fresh_later (length (symbol_names db)) k c.args.scratch.now.lists.marks.items
-    c.requires.is_ready.marks_are_fresh)
+    (fresh_later (length (symbol_names db)) k c.args.scratch.now.lists.stamps.items
+    c.requires.is_ready.frame_stamps_are_fresh)
     (λ x. ap (λ (xs : List ℕ). is_member xs x) (sym same_list)
     ∙ c.in_ok-list_further.ensures.are_further x) in
     on_ok_then c.add_shared.result c.add_shared.ensures (λ pushed. ready)

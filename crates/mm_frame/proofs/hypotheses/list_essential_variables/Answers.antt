@@ -4,7 +4,7 @@ use Rattle.std.specs.List.{list_any}
 use Rattle.mm_spec.specs.Derivation.{is_member}
 use Rattle.mm_spec.specs.Frame.{symbol_names, is_variable_number, formula_at}
 use Rattle.mm_frame.proofs.HypothesesLaw.{essential_lt_k}
-use Rattle.mm_frame.proofs.StampsLaw.{fresh_stamps_mark_none}
+use Rattle.mm_frame.proofs.StampsLaw.{fresh_stamps_are_of_none}
 use Rattle.mm_frame.proofs.LoopsLaw.{variables_with_next_formula}
 use Rattle.mm_frame.proofs.hypotheses.list_essential_variables.Goals as goal
 
@@ -20,7 +20,7 @@ formula-requires g c =
 pub loop-essential-init : goal.loop-essential-init
 loop-essential-init g c = record {
   stamps =
-      fresh_stamps_mark_none (length (symbol_names c.args.statements.now.list)) c.args.assertion
+      fresh_stamps_are_of_none (length (symbol_names c.args.statements.now.list)) c.args.assertion
       c.args.stamps.now.items
       c.clear.new.self.items c.requires.are_fresh.count c.requires.are_fresh.stamps_le_stamp
       c.clear.ensures.items;

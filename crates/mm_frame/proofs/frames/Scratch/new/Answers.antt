@@ -4,11 +4,11 @@ use Rattle.mm_frame.proofs.frames.Scratch.new.Goals as goal
 
 pub returns : goal.returns
 returns g c = λ db from count_is. record {
-  stamps_are_fresh =
+  essential_stamps_are_fresh =
       subst (λ n. IsFresh n from c.in_ok-essential_lists.essential_lists.stamps.items)
       (sym count_is) (c.in_ok-essential_lists.ensures from);
-  marks_are_fresh =
-      subst (λ n. IsFresh n from c.in_ok-lists.lists.marks.items) (sym count_is)
+  frame_stamps_are_fresh =
+      subst (λ n. IsFresh n from c.in_ok-lists.lists.stamps.items) (sym count_is)
       (c.in_ok-lists.ensures from);
   previous_is_assertion = λ is_some. absurd (is_some refl);
   previous_is_known = λ is_some. absurd (is_some refl);
