@@ -11,7 +11,7 @@ ghost use Rattle.mm_machine.specs.Entries.{IsEntry, entry_formula};
 ghost use Rattle.mm_machine.specs.Filled.{filled_parts};
 
 use crate::entry::{Entry, fill};
-use crate::flat::list_parts;
+use crate::symbol_lists::list_filled_symbols;
 use mm_database::Sym;
 use mm_nodes::{Body, Nodes};
 use mm_rule::{Hypothesis, PackedPart, Rule, RulePart};
@@ -104,7 +104,7 @@ fn is_wanted_by_symbols<A: Allocator>(
         (λ r. r ≡ bytes_eq (entry_formula nodes.old premise.now)
         (filled_parts nodes.old premises.now wanted.now)) }
 {
-    let is_within_limit = list_parts(nodes, premises, wanted, symbols)?;
+    let is_within_limit = list_filled_symbols(nodes, premises, wanted, symbols)?;
     if !is_within_limit {
         return Ok(false);
     }

@@ -16,13 +16,13 @@ mod entry;
 mod entry_match;
 mod entry_stack;
 mod flag_rows;
-mod flat;
 mod long_formulas;
 mod machine;
 mod owners;
 mod reason;
 mod rule_conditions;
 mod rule_step;
+mod symbol_lists;
 
 pub use disjoint_cache::DisjointCache;
 pub use machine::Machine;

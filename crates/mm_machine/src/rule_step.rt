@@ -17,10 +17,10 @@ use crate::distinct::DistinctVariables;
 use crate::entry::{Entry, fill};
 use crate::entry_match::first_constant;
 use crate::entry_stack::{nodes_to_keep, replace_by_symbols, replace_entries};
-use crate::flat::{SymbolLists, list_parts};
 use crate::owners::{OTHERS, Owners};
 use crate::reason::{Reason, StepRefused};
 use crate::rule_conditions::test_rule;
+use crate::symbol_lists::{SymbolLists, list_filled_symbols};
 use mm_database::{Database, Sym};
 use mm_nodes::{Body, Nodes};
 use mm_rule::{PackedPart, Rule};
@@ -75,7 +75,7 @@ fn replace_by_listed<A: Allocator>(
     ensures stay_masked { StayMasked formula.now nodes.old stack.old.items nodes.new
         stack.new.items }
 {
-    let is_within_limit = list_parts(nodes, &stack[below..], formula, symbols)?;
+    let is_within_limit = list_filled_symbols(nodes, &stack[below..], formula, symbols)?;
     if !is_within_limit {
         return Err(StepRefused::Fault(Reason::TooLong));
     }

@@ -7,8 +7,8 @@ use Rattle.mm_machine.proofs.StepLaw.{premises_are, variables_are_below_premises
 use Rattle.mm_machine.proofs.StepLaw.{entries_if_short, formulas_below_are_in_range}
 use Rattle.mm_machine.proofs.rule_step.replace_by_listed.Goals as goal
 
-pub list_parts-requires : goal.list_parts-requires
-list_parts-requires g c = search (rules, arith, variables_are_below_premises)
+pub list_filled_symbols-requires : goal.list_filled_symbols-requires
+list_filled_symbols-requires g c = search (rules, arith, variables_are_below_premises)
 
 pub returns-in_err-is_within_limit-clause-is_stack :
     goal.returns-in_err-is_within_limit-clause-is_stack
@@ -29,7 +29,7 @@ returns-then-not-is_within_limit-clause-is_stack g c = search (rules, arith)
 pub returns-then-not-is_within_limit-clause-nodes_are_kept :
     goal.returns-then-not-is_within_limit-clause-nodes_are_kept
 returns-then-not-is_within_limit-clause-nodes_are_kept g c =
-    grind (arith, common_steps, extends_unchanged, c.list_parts.ensures.nodes_unchanged)
+    grind (arith, common_steps, extends_unchanged, c.list_filled_symbols.ensures.nodes_unchanged)
 
 pub returns-then-not-is_within_limit-clause-stay_in_range :
     goal.returns-then-not-is_within_limit-clause-stay_in_range
@@ -77,9 +77,9 @@ returns-clause-entries_are g c =
     let stack = c.args.stack.now.items in
     let listed = c.in_ok-is_within_limit.ensures.is_listed c.if-not-is_within_limit.false in
     let f = c.deref-3.result.now in
-    let f_is : f ≡ c.list_parts.new.symbols.items = c.deref-3.ensures.value in
+    let f_is : f ≡ c.list_filled_symbols.new.bodies.items = c.deref-3.ensures.value in
     entries_if_short nodes stack c.args.below c.args.formula.now f (f_is ∙ listed.symbols_are
     ∙ ap (λ es. filled_parts nodes es c.args.formula.now) (premises_are stack c.deref.result.now
     c.args.below c.deref.ensures.value)) (omega (arith, ap length f_is, listed.length_le_limit))
     ∙ ap Ok (sym (c.in_ok-replace_by_symbols.ensures.formulas_are ∙ ap (λ ns. take c.args.below
-    (entry_formulas ns stack) ++ f ∷ []) c.list_parts.ensures.nodes_unchanged))
+    (entry_formulas ns stack) ++ f ∷ []) c.list_filled_symbols.ensures.nodes_unchanged))

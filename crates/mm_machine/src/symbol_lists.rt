@@ -55,13 +55,13 @@ impl<A: Allocator> SymbolLists<A> {
 #[inline(always)]
 pub fn list_symbols<A: Allocator>(
     formula: &[Sym],
-    symbols: &mut Vec<Body, A>,
+    bodies: &mut Vec<Body, A>,
 ) -> Result<(), AllocError>
-    ensures { OnOk result (symbols.new.items ≡ formula.now) }
+    ensures { OnOk result (bodies.new.items ≡ formula.now) }
 {
-    symbols.clear();
+    bodies.clear();
     for symbol in formula {
-        symbols.push(Body::symbol(symbol.number()))?;
+        bodies.push(Body::symbol(symbol.number()))?;
     }
     Ok(())
 }
@@ -71,44 +71,44 @@ fn append_part<A: Allocator>(
     nodes: &mut Nodes<A>,
     premises: &[Entry],
     part: PackedPart,
-    symbols: &mut Vec<Body, A>,
+    bodies: &mut Vec<Body, A>,
 ) -> Result<(), AllocError>
     requires { IsVariableBelow (length premises.now) part }
     ensures nodes_unchanged { nodes.new ≡ nodes.old }
     ensures appends_part { OnOk result
-        (symbols.new.items ≡ symbols.old.items ++ filled_part nodes.old premises.now part) }
+        (bodies.new.items ≡ bodies.old.items ++ filled_part nodes.old premises.now part) }
     ensures are_symbols { All (λ s. s < first_node) (filled_part nodes.old premises.now part) }
 {
     match part.to_part() {
         RulePart::Constant(symbol) => {
-            symbols.push(Body::symbol(symbol.number()))?;
+            bodies.push(Body::symbol(symbol.number()))?;
             Ok(())
         }
         RulePart::Variable(floating_index) => {
-            nodes.append_symbols(premises[floating_index as usize].body, symbols)
+            nodes.append_symbols(premises[floating_index as usize].body, bodies)
         }
     }
 }
 
-/// Lists the symbols that parts have with their variables replaced, and returns whether they are
-/// within the limit. Only then are they complete.
-pub fn list_parts<A: Allocator>(
+/// Lists the symbols of parts whose variables are replaced by the premises, as bodies, and returns
+/// whether they are within the limit. Only then are they complete.
+pub fn list_filled_symbols<A: Allocator>(
     nodes: &mut Nodes<A>,
     premises: &[Entry],
     parts: &[PackedPart],
-    symbols: &mut Vec<Body, A>,
+    bodies: &mut Vec<Body, A>,
 ) -> Result<bool, AllocError>
     requires variables_in_range { All (IsVariableBelow (length premises.now)) parts.now }
     ensures nodes_unchanged { nodes.new ≡ nodes.old }
     ensures is_listed { IfOk result (λ r. r ≡ true → IsListed nodes.old premises.now parts.now
-        symbols.new.items) }
+        bodies.new.items) }
     ensures is_too_long { IfOk result (λ r. r ≡ false
         → formula_limit < length (filled_parts nodes.old premises.now parts.now)) }
 {
-    symbols.clear();
+    bodies.clear();
     for part in parts {
-        append_part(nodes, premises, *part, symbols)?;
-        if symbols.len() > FORMULA_LIMIT {
+        append_part(nodes, premises, *part, bodies)?;
+        if bodies.len() > FORMULA_LIMIT {
             return Ok(false);
         }
     }

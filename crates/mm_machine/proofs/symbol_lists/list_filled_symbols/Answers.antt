@@ -1,6 +1,6 @@
 use Rattle.std.proofs.Common.{rules, arith}
 use Rattle.mm_machine.proofs.FilledLaw.{listed_more, listed_too_long}
-use Rattle.mm_machine.proofs.flat.list_parts.Goals as goal
+use Rattle.mm_machine.proofs.symbol_lists.list_filled_symbols.Goals as goal
 
 pub loop-part-preserved : goal.loop-part-preserved
 loop-part-preserved g c = search (rules, arith, listed_more)
