@@ -63,7 +63,8 @@ fn is_same_kind<D: Allocator, E: Allocator>(
 }
 
 /// Returns the statement of the other that is this assertion: it has its label, is of its kind, and
-/// says the same. `None` if the other hasn't it. `known` is that of [`says_same`].
+/// says the same. `None` if the other hasn't it. `known` are two assertions with the same frame, if
+/// any are known, so that it isn't compared again.
 pub fn find_same<D: Allocator, E: Allocator>(
     database: &Database<'_, D>,
     k: u32,
@@ -90,7 +91,8 @@ pub fn find_same<D: Allocator, E: Allocator>(
     }
 }
 
-/// Whether the other has an assertion. `known` is that of [`says_same`].
+/// Whether the other has an assertion. `known` are two assertions with the same frame, if any are
+/// known, so that it isn't compared again.
 fn is_there<D: Allocator, E: Allocator>(
     database: &Database<'_, D>,
     k: u32,
@@ -117,7 +119,8 @@ fn is_told<D: Allocator>(database: &Database<'_, D>, only: Option<&[u8]>, statem
 }
 
 /// Whether a statement is an assertion that the other hasn't, and has the typecode if one is
-/// chosen. `known` is that of [`says_same`].
+/// chosen. `known` are two assertions with the same frame, if any are known, so that it isn't
+/// compared again.
 fn is_only_in<D: Allocator, E: Allocator>(
     database: &Database<'_, D>,
     only: Option<&[u8]>,

@@ -86,6 +86,7 @@ const ROOM: usize = 65_536;
 #[derive(Drop)]
 struct Ended {
     status: u32,
+    /// The length of the output, as the call tells it.
     written: usize,
     out: [u8; OUT],
     room_is_whole: bool,

@@ -53,13 +53,14 @@ abbrev pub report_texts : List Text → List Text
 report_texts words =
     section_names ++ flat_map known_parts words
 
--- the sections with these names; `all` are those that a report has by default
+-- The sections with these names. `all` stands for those that a report has by default: matrix,
+-- counts and usage.
 abbrev pub sections_named : List Text → Sections
-sections_named names = let default = is_in (codes "all") names in
+sections_named names = let is_all = is_in (codes "all") names in
     record {
-      matrix = default || is_in (codes "matrix") names;
-      counts = default || is_in (codes "counts") names;
-      usage = default || is_in (codes "usage") names;
+      matrix = is_all || is_in (codes "matrix") names;
+      counts = is_all || is_in (codes "counts") names;
+      usage = is_all || is_in (codes "usage") names;
       citations = is_in (codes "citations") names;
       statements = is_in (codes "statements") names;
     }

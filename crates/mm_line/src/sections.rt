@@ -71,15 +71,16 @@ fn has_name(text: &str, name: &str) -> bool
     text.split(',').any(|part| name == part)
 }
 
-/// The sections that the text names.
+/// The sections that the text names. `all` stands for the sections of a report by default: matrix,
+/// counts and usage.
 pub(crate) fn sections_named_in(text: &str) -> Sections
     ensures { result ≡ sections_named (names_in text.now) }
 {
-    let default = has_name(text, "all");
+    let is_all = has_name(text, "all");
     Sections {
-        matrix: default || has_name(text, "matrix"),
-        counts: default || has_name(text, "counts"),
-        usage: default || has_name(text, "usage"),
+        matrix: is_all || has_name(text, "matrix"),
+        counts: is_all || has_name(text, "counts"),
+        usage: is_all || has_name(text, "usage"),
         citations: has_name(text, "citations"),
         statements: has_name(text, "statements"),
     }

@@ -1,4 +1,4 @@
-//! The differences between two databases.
+//! Writes the differences between two databases.
 
 ghost use Rattle.std.specs.Prelude.{◌≡◌, ◌<◌, ◌^◌, ℕ, [], length, map, take, flat_map};
 ghost use Rattle.std.specs.Prelude.{slice_index_or, All, OnOk, OnErr};
@@ -31,7 +31,7 @@ pub struct Difference<'s, 'a, D: Allocator, A: Allocator> {
     pub own: &'s [u32],
     /// The dummy variables of these assertions.
     pub dummy_lists: &'s Dummies<A>,
-    /// For each theorem the axioms on which it rests, and in the other doesn't.
+    /// For each theorem the axioms on which it rests in this database and not in the other one.
     pub shifts: &'s Lists<u32, A>,
 }
 

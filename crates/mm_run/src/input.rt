@@ -6,12 +6,12 @@ ghost use Rattle.mm_spec.specs.Ends.{Gave, reading_limit};
 use std::alloc::{AllocError, Allocator};
 use std::io::Read;
 
-/// The most bytes that are read: one more than a text may have, so that a text that is too long is
-/// recognised.
+/// The most bytes that are read: `reading_limit` of the definitions, which is one more than a text
+/// may have, so that a text that is too long is recognised.
 pub const READING_LIMIT: usize = 2_147_483_648;
 
 /// How many bytes are requested of a reader at a time.
-const PIECE_LEN: usize = 65536;
+const CHUNK_LEN: usize = 65536;
 
 /// Why a text was not read: a read failed, or out of memory.
 #[derive(Clone, Copy)]
@@ -42,12 +42,12 @@ pub fn read_all<R: Read, A: Allocator>(
         (Gave (R.remaining from.old) (R.remaining from.new) text.new.items) }
     ensures length_le_limit { OnOk result (length text.new.items ≤ reading_limit) }
 {
-    let mut piece = [0u8; PIECE_LEN];
+    let mut chunk = [0u8; CHUNK_LEN];
     while text.len() < READING_LIMIT {
-        let wanted = (READING_LIMIT - text.len()).min(PIECE_LEN);
-        match from.read(&mut piece[..wanted]) {
+        let wanted = (READING_LIMIT - text.len()).min(CHUNK_LEN);
+        match from.read(&mut chunk[..wanted]) {
             Ok(0) => return Ok(()),
-            Ok(count) => text.extend_from_slice(&piece[..count])?,
+            Ok(count) => text.extend_from_slice(&chunk[..count])?,
             Err(_) => return Err(ReadRefused::Failed),
         }
     }

@@ -72,7 +72,8 @@ pub(crate) fn read_statements_alone<'a, A: Allocator + Copy>(
     unframed_of(alloc, text, tokens, with_open, outlined, listed)
 }
 
-/// Reads the statements of a text by as many threads as there are workers, two or more.
+/// Reads the statements of a text by as many threads as there are workers, at least one. It is
+/// called for two or more.
 pub(crate) fn read_statements<'a, R: Threads + Sync, A: Allocator + Copy + Send + Sync>(
     rt: &R,
     alloc: A,

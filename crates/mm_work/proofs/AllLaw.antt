@@ -10,7 +10,7 @@ use Rattle.mm_work.specs.Judged.{HasCitations}
 use Rattle.mm_work.specs.Workers.{theorem_of, AreGathered, AreFindings, IsFoundFaulty}
 use Rattle.mm_work.specs.declared.job.Job.{Job}
 use Rattle.mm_work.specs.declared.worker.Findings.{Findings}
-use Rattle.mm_work.proofs.CitedLaw.{valid_if_has_citations}
+use Rattle.mm_work.proofs.CitesAsDatabaseLaw.{valid_if_has_citations}
 use Rattle.std.proofs.lemmas.List.{get_or_default}
 
 module _ {A : Type 0} (job : Job A) (seat : SeatValue) (fs : List (Findings A))

@@ -8,11 +8,11 @@
 -- (`AllLaw.antt`) lead to
 -- `is_first_fault`. If there is no fault, `merge` finds each list by `findings_at_worker` and
 -- `list_has_citations`
--- (`PositionsLaw.antt`) and adds it by `citations_push`; `judged_valid` concludes with
+-- (`PositionsLaw.antt`) and adds it by `with_citations_of_one_more`; `judged_valid` concludes with
 -- `all_have_citations`.
--- `is_first_fault`, `citations_push` and `all_have_citations` (`VerifyLaw.antt`) also serve
--- `check_in_order`.
-pub mod CitedLaw
+-- `is_first_fault`, `with_citations_of_one_more` and `all_have_citations` (`VerifyLaw.antt`) also
+-- serve `check_in_order`.
+pub mod CitesAsDatabaseLaw
 pub mod VerifyLaw
 pub mod WorkersLaw
 pub mod PositionsLaw

@@ -1,4 +1,5 @@
--- Verifying theorem after theorem.
+-- What holds from theorem to theorem while proofs are checked: the theorems before have their
+-- citations, and a fault that is found is the first one.
 use Rattle.std.proofs.Common.{◌≡◌, ℕ, ◌+◌, ◌-◌, ◌<◌, ◌≤◌, ◌^◌, ◌⊎◌, inl, inr, Bool, List, [], ◌∷◌}
 use Rattle.std.proofs.Common.{◌++◌, length, get_or, refl, sym, ap, ◌∙◌, subst, arith, length-append}
 use Rattle.std.proofs.lemmas.Bool.{cases_lt}
@@ -12,15 +13,15 @@ use Rattle.mm_database.proofs.SpacedLaw.{theorems_are}
 use Rattle.mm_cites.specs.Citing.{citing, IsFileOrder}
 use Rattle.mm_work.specs.Judged.{HasCitations, HaveCitationsUpTo, AllHaveCitations, IsFirstFault}
 use Rattle.mm_work.specs.Judged.{HasFault}
-use Rattle.mm_work.proofs.CitedLaw.{valid_if_has_citations, valid_before, all_valid, is_file_order}
-use Rattle.mm_work.proofs.CitedLaw.{cites_as_database}
+use Rattle.mm_work.proofs.CitesAsDatabaseLaw.{valid_if_has_citations, valid_before, all_valid}
+use Rattle.mm_work.proofs.CitesAsDatabaseLaw.{is_file_order, cites_as_database}
 
 -- the citations of one more theorem, appended
-pub citations_push : (db : List Statement) (by_essential : Bool) (ts : List ℕ) (n : ℕ)
+pub with_citations_of_one_more : (db : List Statement) (by_essential : Bool) (ts : List ℕ) (n : ℕ)
     → (lists : List (List ℕ)) (cites : List ℕ)
     → HaveCitationsUpTo db by_essential ts n lists → HasCitations db by_essential (get_or ts n 0)
     cites → HaveCitationsUpTo db by_essential ts (n + 1) (lists ++ cites ∷ [])
-citations_push db by_essential ts n lists cites have_citations has_citations = record {
+with_citations_of_one_more db by_essential ts n lists cites have_citations has_citations = record {
   list_count_is = (omega (arith, length-append lists (cites ∷ []), have_citations.list_count_is));
   each_has_citations = λ i i_lt_suc_n. has_citations_at i (cases_lt i n) i_lt_suc_n;
 }

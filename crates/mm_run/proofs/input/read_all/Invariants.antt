@@ -3,13 +3,13 @@ use Rattle.std.specs.Io.KnownBytes.{Consumes}
 use Rattle.mm_spec.specs.Ends.{reading_limit}
 use Rattle.mm_run.proofs.input.read_all.Given as goal
 
-abbrev pub invariant-loop-piece : goal.invariant-loop-piece
-invariant-loop-piece g l =
+abbrev pub invariant-loop-chunk : goal.invariant-loop-chunk
+invariant-loop-chunk g l =
     record {
       length_le_limit : vec_len l.text ≤ reading_limit;
       consumes_text : Consumes (g.R.Read.remaining l.fn.from) (g.R.Read.remaining l.from)
           l.text.items;
     }
 
-abbrev pub decreases-loop-piece : goal.decreases-loop-piece
-decreases-loop-piece g l = reading_limit - vec_len l.text
+abbrev pub decreases-loop-chunk : goal.decreases-loop-chunk
+decreases-loop-chunk g l = reading_limit - vec_len l.text

@@ -5,7 +5,7 @@ use Rattle.mm_work.specs.Judged.{HaveCitationsUpTo, HasFault, IsVerifyRefusalOf,
 use Rattle.mm_work.specs.Judged.{IsFirstFault}
 use Rattle.mm_spec.specs.declared.Fault.{Fault}
 use Rattle.mm_work.specs.declared.proof.VerifyRefused.{VerifyRefused}
-use Rattle.mm_work.proofs.VerifyLaw.{citations_push, valid_if_cited, is_first_fault}
+use Rattle.mm_work.proofs.VerifyLaw.{with_citations_of_one_more, valid_if_cited, is_first_fault}
 use Rattle.mm_work.proofs.in_order.check_in_order.Goals as goal
 
 pub judged_valid-requires : goal.judged_valid-requires
@@ -52,8 +52,9 @@ loop-theorem-preserved g c =
     record {
       made_for = c.in-Ok.ensures.made_for;
       have_citations =
-          rw (c.in_ok-push-in-Ok.ensures.list_is_added, c.cites.ensures) (citations_push db
-          c.args.essential (theorems db) i c.loop-theorem.lists c.in-Ok.checked.cites
+          rw (c.in_ok-push-in-Ok.ensures.list_is_added, c.cites.ensures)
+          (with_citations_of_one_more db c.args.essential (theorems db) i c.loop-theorem.lists
+          c.in-Ok.checked.cites
           c.loop-theorem.invariant.have_citations (subst (λ (ts : List ℕ). HasCitations db
           c.args.essential (get_or ts i 0) c.in-Ok.checked.cites)
           c.theorems-theorems.ensures.theorems

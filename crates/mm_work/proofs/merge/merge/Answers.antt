@@ -4,7 +4,7 @@ use Rattle.mm_work.specs.Judged.{HaveCitationsUpTo}
 use Rattle.mm_work.specs.declared.merge.ListPosition.{ListPosition}
 use Rattle.mm_work.proofs.PositionsLaw.{le_of_lt, worker_lt_length, findings_at_worker}
 use Rattle.mm_work.proofs.PositionsLaw.{list_lt_cites_length, list_has_citations}
-use Rattle.mm_work.proofs.VerifyLaw.{citations_push}
+use Rattle.mm_work.proofs.VerifyLaw.{with_citations_of_one_more}
 use Rattle.mm_work.proofs.merge.merge.Goals as goal
 
 pub offset_bounds-all_findings-position : goal.offset_bounds-all_findings-position
@@ -80,7 +80,8 @@ loop-position-preserved g c =
       ap (λ (ts : List ℕ). length ts)
           c.theorems.ensures.theorems,
     ))) in
-    rw c.in_ok-push.ensures.list_is_added (citations_push db c.args.essential (theorems db) k
+    rw c.in_ok-push.ensures.list_is_added
+    (with_citations_of_one_more db c.args.essential (theorems db) k
     c.loop-position.lists c.get.result.now c.loop-position.invariant (list_has_citations db
     c.args.essential fs c.requires.are_findings c.in_ok-positions.positions.items
     c.deref-position-items.result.now k _ positions_are has_position _ c.get.result.now
