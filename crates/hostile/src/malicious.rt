@@ -40,9 +40,13 @@ fn is_bad_byte_refused<R: Threads + Wait + Sync>(
     Ok(end == Some(RunEnd::Refused(fault)) && written.as_slice() == line.as_bytes())
 }
 
+/// Up to so many spaces, less one, stand before a bad byte. They are more than two blocks of 64
+/// bytes, so the bad byte is at each place of a block.
+const MOST_SPACES: u32 = 130;
+
 #[test]
 fn a_bad_byte_after_spaces(rt: HostRuntime) -> Result<(), AllocError> {
-    for spaces in 0..130u32 {
+    for spaces in 0..MOST_SPACES {
         let is_right = is_bad_byte_refused(&rt, rt.alloc(), b"", spaces, spaces)?
             && is_bad_byte_refused(&rt, rt.alloc(), b"$( ", spaces, spaces + 3)?;
         assert!(&rt; is_right, "{spaces} spaces");

@@ -13,6 +13,9 @@ use mm_spec::{Request, Sections, TEXT_LIMIT};
 use std::alloc::{Allocator, Global};
 use std::process::Abort;
 
+/// How many growths writing an output of a judged text has at least, whichever sections it has.
+const LEAST_OF_WRITING: u64 = 1;
+
 /// What judging a text comes to. `None` if the text is too long or there is no memory.
 pub(crate) fn judged<'a, A: Allocator + Copy>(alloc: A, text: &'a [u8]) -> Option<JudgedText<'a, A>>
     ensures { IfSome result (IsJudgedText text.now false false) }
@@ -85,7 +88,7 @@ fn written_in_turn<'h, R: Abort>(
         let is_right_again = is_written(heap, memory, text, judged, sections, output);
         assert!(rt; is_right_again == Some(true));
         if !refused {
-            return growth > 1;
+            return growth > LEAST_OF_WRITING;
         }
     }
     false

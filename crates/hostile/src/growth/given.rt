@@ -6,7 +6,7 @@ ghost use Rattle.std.specs.Prelude.{◌≡◌, IfOk};
 ghost use Rattle.mm_spec.specs.Lexed.{tokens_of, lexical_fault};
 
 use super::reading::{CUT_AT, is_summary};
-use super::{MOST_GROWTHS, WITHOUT_OPEN, was_refused};
+use super::{LEAST_OF_READING, MOST_GROWTHS, WITHOUT_OPEN, was_refused};
 use crate::heap::Refusing;
 use crate::texts::{DISJOINT, FIRST_TEXT};
 use linked_list_allocator::LocalHeap;
@@ -19,6 +19,10 @@ use std::thread::Threads;
 
 /// How many bytes the heap has, which is more than any of these calls takes.
 const HEAP_SIZE: usize = 1_048_576;
+
+/// How many growths joining two pieces has at least: the tokens of the second are appended to those
+/// of the first.
+const LEAST_OF_JOINING: u64 = 1;
 
 /// What a text is read as, with the tokens in a heap.
 fn lexed_in<'h, R: Threads + Sync>(
@@ -87,7 +91,7 @@ fn tokens_in_turn<'h, R: Abort + Threads + Sync>(
     for growth in 1..MOST_GROWTHS {
         match are_tokens_given_back(rt, alloc, local, heap, text, growth) {
             Ok(true) => {}
-            Ok(false) => return growth > 10,
+            Ok(false) => return growth > LEAST_OF_READING,
             Err(_) => return false,
         }
     }
@@ -130,7 +134,7 @@ fn pieces_in_turn<'h, R: Abort>(
     for growth in 1..MOST_GROWTHS {
         match are_pieces_given_back(rt, local, heap, growth) {
             Ok(true) => {}
-            Ok(false) => return growth > 1,
+            Ok(false) => return growth > LEAST_OF_JOINING,
             Err(_) => return false,
         }
     }

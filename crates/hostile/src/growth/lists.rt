@@ -9,6 +9,10 @@ use mm_stmt::{Database, Sym};
 use std::alloc::{AllocError, Allocator, Global};
 use std::process::Abort;
 
+/// How many growths appending the first list has at least: that of the elements, and that of the
+/// bounds.
+const LEAST_OF_LIST: u64 = 2;
+
 /// What a theorem cites.
 const FIRST_CITES: [u32; 3] = [4, 5, 9];
 
@@ -39,7 +43,7 @@ fn a_list_that_is_refused_is_not_appended(rt: HostRuntime) {
     let heap = Refusing::new(rt.alloc());
     for growth in 1..MOST_GROWTHS {
         if !list_refused(&rt, &heap, growth) {
-            assert!(&rt; growth > 2);
+            assert!(&rt; growth > LEAST_OF_LIST);
             return;
         }
     }

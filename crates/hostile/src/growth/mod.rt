@@ -27,6 +27,10 @@ const WITHOUT_OPEN: bool = false;
 /// More growths of memory than any of the calls has.
 const MOST_GROWTHS: u64 = 10_000;
 
+/// How many growths reading statements has at least: names, outlines, statements and frames are in
+/// lists and maps of their own.
+const LEAST_OF_READING: u64 = 10;
+
 /// Returns whether the growth that was to be refused came, and so was refused. Asserts that it was
 /// if the call has no answer, and otherwise that the answer is right. Afterwards no growth is
 /// refused.

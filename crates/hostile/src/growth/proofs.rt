@@ -25,8 +25,15 @@ use std::thread::Threads;
 /// How many workers compile rules: so many that the text with two theorems has three stretches.
 const WORKERS: u32 = 3;
 
-/// The database of the text with two theorems.
-pub(crate) fn database_of<R: Threads + Sync, A: Allocator + Copy + Send + Sync>(
+/// How many growths a check has at least that makes a checker of its own.
+const LEAST_OF_CHECK: u64 = 10;
+
+/// How many growths the first check of a checker has at least. They are fewer, since the growths of
+/// making the checker came before.
+const LEAST_OF_FIRST_CHECK: u64 = 5;
+
+/// The database of `CITED_TWICE`, which has two theorems.
+pub(crate) fn cited_twice_database<R: Threads + Sync, A: Allocator + Copy + Send + Sync>(
     rt: &R,
     alloc: A,
 ) -> Result<Database<'static, A>, AllocError> {
@@ -108,7 +115,7 @@ fn checked_in_turn<'h, R: Abort>(
         );
         assert!(rt; is_checked(checked(heap, database, theorem, steps)) == Some(true));
         if !refused {
-            return growth > 10;
+            return growth > LEAST_OF_CHECK;
         }
     }
     false
@@ -157,7 +164,7 @@ fn checkers_in_turn<'h, R: Abort>(
     for growth in 1..MOST_GROWTHS {
         match is_growth_refused(rt, heap, database, theorem, steps, growth) {
             Some(true) => {}
-            Some(false) => return growth > 5,
+            Some(false) => return growth > LEAST_OF_FIRST_CHECK,
             None => return false,
         }
     }
@@ -187,7 +194,7 @@ fn a_proof_checked_without_memory_and_again_by_the_same_checker(
     rt: HostRuntime,
 ) -> Result<(), AllocError> {
     let heap = Refusing::new(rt.alloc());
-    let database = database_of(&rt, &heap)?;
+    let database = cited_twice_database(&rt, &heap)?;
     assert!(&rt; first_checked(&rt, &heap, &database));
     Ok(())
 }
@@ -320,7 +327,7 @@ fn all_in_turn<'h, R: Abort + Threads + Wait + Sync>(
 #[test]
 fn calls_on_a_database_without_memory(rt: HostRuntime) -> Result<(), AllocError> {
     let heap = Refusing::new(rt.alloc());
-    let database = database_of(&rt, &heap)?;
+    let database = cited_twice_database(&rt, &heap)?;
     all_in_turn(&rt, &heap, &database);
     Ok(())
 }

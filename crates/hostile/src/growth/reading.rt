@@ -5,7 +5,7 @@ ghost use Rattle.mm_spec.specs.Lexed.{tokens_of, lexical_fault};
 
 use super::alone::{is_sound, judged};
 use super::proofs::is_board;
-use super::{MOST_GROWTHS, WITHOUT_OPEN, was_refused};
+use super::{LEAST_OF_READING, MOST_GROWTHS, WITHOUT_OPEN, was_refused};
 use crate::heap::{NONE_REFUSED, Refusing};
 use crate::texts::{CITED_TWICE, FIRST_TEXT};
 use mm_board::Board;
@@ -197,7 +197,7 @@ fn is_read<A: Allocator>(answer: Result<Database<'_, A>, AllocError>) -> Option<
 }
 
 /// Refuses each growth of reading statements in turn, and asserts that the tokens are left as they
-/// were. Returns whether the last call met no refusal, and the first ten did.
+/// were. Returns whether the last call met no refusal, and the first `LEAST_OF_READING` did.
 fn statements_in_turn<'h, R: Abort>(
     rt: &R,
     heap: &'h Refusing<Global>,
@@ -217,7 +217,7 @@ fn statements_in_turn<'h, R: Abort>(
                 && is_read(read(heap, text, lexed, WITHOUT_OPEN)) == Some(true)
         );
         if !refused {
-            return growth > 10;
+            return growth > LEAST_OF_READING;
         }
     }
     false
@@ -268,7 +268,7 @@ fn statements_by_workers_in_turn<'h, R: Abort + Threads + Sync>(
         let refused = was_refused(rt, heap, is_read_by_workers(rt, heap, text, lexed));
         assert!(rt; is_read_by_workers(rt, heap, text, lexed) == Some(true));
         if !refused {
-            return growth > 10;
+            return growth > LEAST_OF_READING;
         }
     }
     false

@@ -1,6 +1,6 @@
 //! The calls that compute rows, and the one that computes waves, on the database with two theorems.
 
-use super::proofs::database_of;
+use super::proofs::cited_twice_database;
 use super::{MOST_GROWTHS, was_refused};
 use crate::calls::all_checked;
 use crate::heap::Refusing;
@@ -17,7 +17,7 @@ fn citations_of<R: Threads + Wait + Sync, A: Allocator + Copy + Send + Sync>(
     rt: &R,
     alloc: A,
 ) -> Result<Citations<A>, AllocError> {
-    let database = database_of(rt, alloc)?;
+    let database = cited_twice_database(rt, alloc)?;
     match all_checked(rt, alloc, &database, 1)? {
         Judged::Valid(citations) => Ok(citations),
         Judged::Faulty(_) => Err(AllocError),
@@ -143,9 +143,9 @@ fn all_in_turn<'h, R: Abort>(
 #[test]
 fn rows_waves_and_columns_without_memory(rt: HostRuntime) -> Result<(), AllocError> {
     let heap = Refusing::new(rt.alloc());
-    let database = database_of(&rt, rt.alloc())?;
+    let database = cited_twice_database(&rt, rt.alloc())?;
     let citations = citations_of(&rt, &heap)?;
-    let columns = Columns::new(&heap, &database_of(&rt, &heap)?, None)?;
+    let columns = Columns::new(&heap, &cited_twice_database(&rt, &heap)?, None)?;
     all_in_turn(&rt, &heap, &database, &citations, &columns);
     Ok(())
 }

@@ -23,7 +23,8 @@ fn faults_of_words_and_statements(rt: HostRuntime) {
     assert_examples(&rt, rt.alloc(), &SCOPES);
 }
 
-/// Statements with a faulty proof.
+/// Statements with a faulty proof, and what is written for them. In the text `$c a $. ` stands before
+/// them, so that the columns count 8 more than in the statements.
 const FAULTS_OF_PROOFS: [(&[u8], &[u8]); 14] = [
     (b"t $p a $= $.", b"refused 1:19 E31\n"),
     (b"t $p a $= ? $.", b"refused 1:19 E32\n"),

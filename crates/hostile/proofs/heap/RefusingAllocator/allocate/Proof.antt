@@ -1,4 +1,5 @@
--- It counts the call, and answers what the inner allocator answers. Assumes `Logic`.
+-- `allocate` of `RefusingAllocator` counts the call, and refuses it or answers what the inner
+-- allocator answers. Assumes `Logic`.
 use Rattle.std.proofs.Common.{◌≡◌, ℕ, ◌+◌, ◌^◌, ◌<◌, true, false, Bool, List, [], ◌∷◌, Ok, Err}
 use Rattle.std.proofs.Common.{refl, w64, Bor}
 use seplogic.Ra.Ura.{Ura}
@@ -58,12 +59,16 @@ module _ (Z : Al) where
   abbrev here : Fn
   here = inst_fn args code.function
 
+  -- The parameters are the allocator, by reference, and two numbers: the size and the alignment. A
+  -- `Slot 2` is a parameter of a signature that has two lifetimes. Below they are κ₁, of the
+  -- reference, and κ₂, within which κ₁ is.
   abbrev self : Slot 2
   self = RefOf (0 ∷ []) tt (plain (λ _. wrapper.the_row (param 0 Z.row))) (λ _. tt)
 
   abbrev ended : Ended
   ended = F.ended Z.row Z.g Z.d Z.drops
 
+  -- Nothing is had of a parameter at exit, which `yes` says for each of them.
   abbrev stayed : Stays ended.signature.params ended.kept
   stayed = (
     stay_dropped self yes,
@@ -114,10 +119,12 @@ module _ (Z : Al) {M : Type 1} {𝓤 : Ura M} (𝓛 : Logic 𝓤) (at_mem : Memo
         split ! $ split ! $ move ! (2 ∷ []) $ fsplit ! $ fsplit ! $ move !
         (1 ∷ []) $ unhide ! $ fsplit ! $ fsplit ! $ use1 𝓛 (‵ (seen Z κ₁ p h))
         (id⊢ 𝓤 _) $ move ! (1 ∷ []) $ fsplit ! $ keep ! (0 ∷ 6 ∷ 2 ∷ 7 ∷ []) $
+        -- Here the code begins. It takes the address of `growths_left`.
         enter ! 𝓣.C 𝓣.Λ (here Z) vs _ $ alloc_all !
         (λ l. pass_all ! refl
         ((tt, tt), ((tt, record { fits = n_lt_limit }), ((tt, record { fits = a_lt_limit }), tt))) $
         sets ! (addr ! (through ! refl (fld ! refl (stop !)))) refl (tt, tt) $
+        -- The call `count_growth(&self.growths_left)`, and what it gives.
         use2 𝓛 (raw ((CountGrowth 𝓛 at_mem run).pre (at_count_growth 𝓛 at_mem run κ₁ q₁ c)))
         (CountGrowth_goes 𝓛 at_mem run κ₁ q₁ c) $
         calls_at ! (fm_of 𝓤 H 𝓛.laws 𝓣) (CountGrowth 𝓛 at_mem run) kn
@@ -127,6 +134,7 @@ module _ (Z : Al) {M : Type 1} {𝓤 : Ura M} (𝓛 : Logic 𝓤) (at_mem : Memo
         (CountGrowth_gives 𝓛 at_mem run κ₁ q₁ c u) $ await ! tt $ pick !
         (λ x. learn ! (λ growth_is. lands_as ! growth_is refl (tt, tt) $
         first ! $ branches ! (get ! refl)
+        -- If this growth is to be refused: `return Err(AllocError)`.
         (λ t. sets ! (agg ! (no_more !)) refl (tt, tt) $ sets !
         (agg ! (and_then ! (lit ! tt) (and_then ! (get ! refl) (no_more !)))) refl
         (Answer-typed false 0 0) $
@@ -139,6 +147,7 @@ module _ (Z : Al) {M : Type 1} {𝓤 : Ura M} (𝓛 : Logic 𝓤) (at_mem : Memo
         (Answer-err 𝓛) $ nothing ! $ nothing ! $ fjoin ! $ nothing ! $ fjoin ! $ nothing ! $
         fjoin ! $ join ! $
         move ! (2 ∷ 3 ∷ []) $ join ! $ join ! $ done !)
+        -- If not: the address of `inner`, and the call `self.inner.allocate(size, align)`.
         (λ t. skips ! $ exec ! 𝓣.C 𝓣.Λ (env (here Z).locals l) (after 3 (here Z).body)
         (at_ret (env (here Z).locals l) ((walk_of 𝓛 (ended Z) (stayed Z) held).post bound)) $
         move ! (1 ∷ []) $
@@ -153,6 +162,7 @@ module _ (Z : Al) {M : Type 1} {𝓤 : Ura M} (𝓛 : Logic 𝓤) (at_mem : Memo
         use1 𝓛 (later (raw (Answered Z 𝓛 at_mem run h τ v) ⊛ ‵ (flft κ₁ q₁)))
         (Takes-gives Z 𝓛 at_mem run κ₁ q₁ p h n a τ v) $ await ! tt $ split ! $
         answers Z ! at_mem run h τ v
+        -- It answered with a block, which is the answer.
         (λ b o answer_is. fjoin ! $ lands_as ! answer_is refl (Answer-typed true b o) $ returns !
         (look_at ! 0 refl) $ free_all ! refl $
         suffices ! _
@@ -162,6 +172,7 @@ module _ (Z : Al) {M : Type 1} {𝓤 : Ura M} (𝓛 : Logic 𝓤) (at_mem : Memo
         (Answer-Ok 𝓛 b o) $ nothing ! $ nothing ! $ fjoin ! $ nothing ! $ fjoin ! $ nothing ! $
         fjoin ! $ join ! $
         move ! (2 ∷ 3 ∷ []) $ join ! $ join ! $ done !)
+        -- It had no memory, and that is the answer.
         (λ answer_is. nothing ! $ lands_as ! answer_is refl (Answer-typed false 0 0) $ returns !
         (look_at ! 0 refl) $ free_all ! refl $
         suffices ! _
@@ -181,6 +192,7 @@ allocate_spec 𝓤 𝓛 𝓜 𝓡 wired Y L g d d' met _ =
     let c = F.clauses Y g d d' 𝓛 𝓜.mem 𝓡.returns in
     entered 𝓤 𝓛.H (triple_of 𝓛 (F.signature Y) (F.spec Y g d d' 𝓛 𝓜.mem 𝓡.returns)) 𝓣.C 𝓣.Λ
     (key.name (args Z)) (here Z) (code.unfolded 𝓤 𝓛.H 𝓜 𝓡 wired (Y, tt) d d')
+    -- What stays of each parameter goes.
     (walk_Meets 𝓛 (ended Z) (stayed Z) (
       Goes-dropped 𝓛 2 (self Z) yes (λ κs x f. refl),
       (

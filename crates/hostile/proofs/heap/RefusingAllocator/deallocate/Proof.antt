@@ -125,6 +125,7 @@ module _ (Z : Al) {M : Type 1} {𝓤 : Ura M} (𝓛 : Logic 𝓤) (at_mem : Memo
         split ! $ split ! $ move ! (2 ∷ []) $ fsplit ! $ fsplit ! $ move !
         (1 ∷ []) $ unhide ! $ fsplit ! $ fsplit ! $ use1 𝓛 (‵ (seen Z κ₁ p h))
         (id⊢ 𝓤 _) $ keep ! (0 ∷ 5 ∷ 6 ∷ 7 ∷ []) $
+        -- Here the code begins. It takes the address of `inner`.
         enter ! 𝓣.C 𝓣.Λ (here Z) (vs x) _ $ alloc_all !
         (λ l. pass_all ! refl (
           (tt, tt),
@@ -147,6 +148,7 @@ module _ (Z : Al) {M : Type 1} {𝓤 : Ura M} (𝓛 : Logic 𝓤) (at_mem : Memo
         sets ! (addr ! (through ! refl (fld ! refl (stop !)))) refl (tt, tt) $
         join ! $ move ! (2 ∷ []) $ fsplit ! $ move ! (1 ∷ 2 ∷ []) $ join ! $ move !
         (1 ∷ 0 ∷ []) $ join ! $
+        -- The call `self.inner.deallocate(ptr, size, align)`, and what it gives.
         use1 𝓛 (raw ((Gives Z 𝓛 at_mem run).pre y))
         (Gives-goes Z 𝓛 at_mem run κ₁ q₁ p h
         (⊑_trans κ₁ κ₂ Z.row.lives loan_lives_within lives_within) b o n a τ layout_is.0 layout_is.1
@@ -157,6 +159,7 @@ module _ (Z : Al) {M : Type 1} {𝓤 : Ura M} (𝓛 : Logic 𝓤) (at_mem : Memo
         (and_then ! (get ! refl) (and_then ! (get ! refl) (no_more !))))) (λ v.
         use1 𝓛 (later (given (v ≡ vunit) (‵ (flft κ₁ q₁))))
         (Gives-Gives Z 𝓛 at_mem run κ₁ q₁ p h b o n a τ v) $ await ! tt $ learn ! (λ result_is_unit.
+        -- The end, and the return.
         lands_as ! result_is_unit refl (tt, tt) $ sets ! (of_opd ! (unit_lit !)) refl (tt, tt) $
         returns !
         (look_at ! 0 refl) $ free_all ! refl $
@@ -177,6 +180,7 @@ deallocate_spec 𝓤 𝓛 𝓜 𝓡 wired Y L g d d' met _ =
     let c = F.clauses Y g d d' 𝓛 𝓜.mem 𝓡.returns in
     entered 𝓤 𝓛.H (triple_of 𝓛 (F.signature Y) (F.spec Y g d d' 𝓛 𝓜.mem 𝓡.returns)) 𝓣.C 𝓣.Λ
     (key.name (args Z)) (here Z) (code.unfolded 𝓤 𝓛.H 𝓜 𝓡 wired (Y, tt) d d')
+    -- What stays of each parameter goes.
     (walk_Meets 𝓛 (ended Z) (stayed Z) (
       Goes-dropped 𝓛 2 (self Z) yes (λ κs x f. refl),
       (

@@ -72,11 +72,14 @@ allocate_spec 𝓤 𝓛 𝓜 𝓡 wired A L g d dd met md =
     move ! (1 ∷ []) $ use1 𝓛 (‵ (flft κs.0 qs.0) ⊛ ‵ (flft κs.1.0 qs.1.0) ⊛ ‵ ftrue) (id⊢ 𝓤 _) $
     split ! $ move ! (2 ∷ 0 ∷ []) $
     -- [the allocator; the token of its loan; the other tokens]
+    -- Here the code begins.
     enter ! _ _ _ _ _ $
     alloc_all ! (λ l. pass_all ! refl ((tt, tt), ((tt, record { fits = are.1.0.1 }), tt)) $
     let En : Env 𝓤 𝓛.H = env fn.locals l in let Ends = at_ret En (W.post y) in
+    -- `units * UNIT`, which is within the limit
     sets ! (bin ! (get ! refl) (lit ! tt) (record { fits = omega (arith, units_lt_limit) })) refl
     (tt, record { fits = omega (arith, units_lt_limit) }) $
+    -- The call `alloc.allocate(units * UNIT, UNIT)`, and what it gives.
     use2 𝓛 (raw ((Takes Y 𝓛 𝓜.mem 𝓡.returns).pre z))
     (Takes-goes Y 𝓛 𝓜.mem 𝓡.returns κs.0 qs.0 alloc_ptr h (⊑_trans κs.0 κs.1.0 A.lives bounds.0
     lives_within) size 16 τ
@@ -92,6 +95,7 @@ allocate_spec 𝓤 𝓛 𝓜 𝓡 wired A L g d dd met md =
     { address = p; given_by = record {}; alloc = h; units = u } in
     fjoin ! $ move ! (1 ∷ 2 ∷ []) $ join ! $ move ! (1 ∷ []) $
     -- [the block with the way back; the tokens]
+    -- The arm for an address: `Ok(address) => Some(Block { address, .. })`.
     lands_as ! answer_is refl (tt, (record { fits = lit< tt }, (tt, tt))) $
     first ! $ switches_on ! (get_tag ! (vrt ! refl (fld ! refl (stop !))) (whole !)) $
     exec ! 𝓣.C 𝓣.Λ En (arm_body 0 (head (after 2 fn.body)))
@@ -113,6 +117,7 @@ allocate_spec 𝓤 𝓛 𝓜 𝓡 wired A L g d dd met md =
     use1 𝓛 (‵ ((option.the_row (block.the_row A g)).own_val (Some x)
     (live 1 (vcons (block_val p) vnil) ∷ []))) (Some-of 𝓛 (block.the_row A g) x (block_val p)) $
     nothing ! $ nothing ! $ join ! $ nothing ! $ join ! $ move ! (2 ∷ 0 ∷ 1 ∷ []) $ done !)
+    -- The arm for no memory: `Err(_) => None`.
     (λ answer_is. join ! $
     lands_as ! answer_is refl (tt, (record { fits = lit< tt }, (tt, tt))) $
     first ! $ switches_on ! (get_tag ! (vrt ! refl (fld ! refl (stop !))) (whole !)) $

@@ -85,6 +85,7 @@ free_spec 𝓤 𝓛 𝓜 𝓡 wired A L g d dd met md =
     move ! (2 ∷ 0 ∷ []) $ join ! $ move ! (2 ∷ []) $ fsplit ! $
     -- [the memory; the right to give it back; the allocator with the token of its loan; the other
     -- tokens]
+    -- Here the code begins.
     let z = at_gives Y 𝓛 𝓜.mem 𝓡.returns κs.0 qs.0 alloc_ptr h b o size 16 τ in
     regoal ! (λ (us : List Val). prop (WpFn 𝓤 𝓛.H 𝓣.C 𝓣.Λ fn us Post))
     (λ i. (block_is x.address vss.0 are.0.0 ∙ ap (λ (r : Ptr). block_val r ∷ []) address_is) i
@@ -96,10 +97,13 @@ free_spec 𝓤 𝓛 𝓜 𝓡 wired A L g d dd met md =
       ((tt, tt), ((tt, record { fits = are.1.1.0.1 }), tt)),
     ) $
     let En : Env 𝓤 𝓛.H = env fn.locals l in let Ends = at_ret En Post in
+    -- `let Block { address, .. } = self`
     sets ! (of_opd ! (get_in ! (fld ! refl (stop !)) (sub ! 0 refl (whole !)))) refl (tt, tt) $
+    -- The `unsafe` block: first `units * UNIT`, which is within the limit.
     first ! $ blocks ! $
     sets ! (bin ! (get ! refl) (lit ! tt) (record { fits = omega (arith, units_lt_limit) })) refl
     (tt, record { fits = omega (arith, units_lt_limit) }) $
+    -- The call `alloc.deallocate(address, units * UNIT, UNIT)`, and what it gives.
     use3 𝓛 (raw ((Gives Y 𝓛 𝓜.mem 𝓡.returns).pre z))
     (Gives-goes Y 𝓛 𝓜.mem 𝓡.returns κs.0 qs.0 alloc_ptr h (⊑_trans κs.0 κs.1.0 A.lives y.0.2.0
     lives_within) b o size 16
@@ -114,6 +118,7 @@ free_spec 𝓤 𝓛 𝓜 𝓡 wired A L g d dd met md =
     learn ! (λ result_is_unit. join ! $
     regoal ! (λ (w : Val). settles En (place 5 []) w
     (block_ends 𝓛 (rest_runs 𝓛 𝓣.C 𝓣.Λ En (after 2 fn.body) Ends))) result_is_unit refl $
+    -- The end of the block, and the return.
     lands_last ! refl (tt, tt) $
     exec ! 𝓣.C 𝓣.Λ En (after 2 fn.body) Ends $
     sets ! (of_opd ! (unit_lit !)) refl (tt, tt) $

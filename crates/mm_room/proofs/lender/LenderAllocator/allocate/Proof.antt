@@ -69,6 +69,7 @@ allocate_spec 𝓤 𝓛 𝓜 𝓡 wired =
     move ! (1 ∷ 0 ∷ []) $ join ! $
     -- [the tokens, with the lender and the size]
     nothing ! $ move ! (1 ∷ 0 ∷ []) $ join ! $ use1 𝓛 (raw (G.pre z)) (id⊢ 𝓤 _) $
+    -- Here the code begins: `match self.take_memory(size)`.
     enter ! _ _ _ _ _ $
     alloc_all ! (λ l. pass_all ! refl
     ((tt, tt), ((tt, record { fits = are.1.0.1 }), ((tt, record { fits = are.1.1.0.1 }), tt))) $
@@ -88,6 +89,7 @@ allocate_spec 𝓤 𝓛 𝓜 𝓡 wired =
     (λ b o n_is_positive s_le_units s_lt_limit value_is.
     use1 𝓛 (‵ (froom τ b o) ⊛ ‵ (way_back n τ (block_ptr b o)))
     (cut_from_units 𝓛 τ b o n s layout_is.0 n_is_positive s_le_units s_lt_limit) $
+    -- The arm for memory: `Some(Memory { address }) => Ok(address)`.
     lands_as ! value_is refl (tt, (record { fits = lit< tt }, ((tt, tt), tt))) $
     first ! $ switches_on ! (get_tag ! (vrt ! refl (fld ! refl (stop !))) (whole !)) $
     exec ! 𝓣.C 𝓣.Λ En (arm_body 0 code.Mir.s-2) (rest_runs 𝓛 𝓣.C 𝓣.Λ En code.Mir.t-3 Ends) $
@@ -105,6 +107,7 @@ allocate_spec 𝓤 𝓛 𝓜 𝓡 wired =
     nothing ! $ nothing ! $ join ! $ nothing ! $ join ! $ nothing ! $ join ! $
     move ! (3 ∷ 0 ∷ 1 ∷ 2 ∷ []) $ group ! 3 $ done !)
     (λ value_is.
+    -- The arm for none: `None => Err(AllocError)`.
     lands_as ! value_is refl (tt, (record { fits = lit< tt }, tt)) $
     first ! $ switches_on ! (get_tag ! (vrt ! refl (fld ! refl (stop !))) (whole !)) $
     exec ! 𝓣.C 𝓣.Λ En (arm_body 1 code.Mir.s-2) (rest_runs 𝓛 𝓣.C 𝓣.Λ En code.Mir.t-3 Ends) $

@@ -79,6 +79,7 @@ deallocate_spec 𝓤 𝓛 𝓜 𝓡 wired =
     use2 𝓛 (‵ (units_at p u)) (apply∗ 𝓤 (sem 𝓛 (room_for τ p)) (sem 𝓛 (units_at p u))) $
     move ! (1 ∷ []) $ split ! $ move ! (1 ∷ []) $ fsplit ! $ keep ! (0 ∷ 2 ∷ 3 ∷ []) $
     -- [the lender; the tokens; the units]
+    -- Here the code begins.
     enter ! _ _ _ _ _ $
     alloc_all ! (λ l. pass_all ! refl (
       (tt, tt),
@@ -90,6 +91,7 @@ deallocate_spec 𝓤 𝓛 𝓜 𝓡 wired =
         ),
       ),
     ) $
+    -- `Memory { address: ptr }`
     sets ! (agg ! (and_then ! (get ! refl) (no_more !))) refl (memory_typed 𝓛 p).0 $
     move ! (2 ∷ []) $ owned ! MemoryFields (Is MemoryFields) (memory_makes 𝓛) (p, tt)
     (memory_val p ∷ []) (is_memory p) $ fjoin ! $
@@ -97,6 +99,7 @@ deallocate_spec 𝓤 𝓛 𝓜 𝓡 wired =
     move ! (1 ∷ 0 ∷ []) $ join ! $
     use0 𝓛 (raw (fact 𝓤 (u ≡ u))) (fact_i 𝓤 (u ≡ u) (emp 𝓤) refl) $ move ! (1 ∷ 0 ∷ []) $ join ! $
     use1 𝓛 (raw (G.pre z)) (id⊢ 𝓤 _) $
+    -- The call `self.put_back(..)`, and what it gives.
     calls_at ! (framed 𝓤 𝓛.H 𝓜 (tables 𝓤 𝓛.H 𝓜 𝓡 𝓡.env)) G
     (met 𝓤 𝓛 𝓜 𝓡 (code.calls-mm_room::lender::Lender::put_back 𝓡.env wired)) z
     (and_then ! (get ! refl) (and_then ! (get ! refl) (no_more !))) (λ v.
@@ -106,6 +109,7 @@ deallocate_spec 𝓤 𝓛 𝓜 𝓡 wired =
     (id⊢ 𝓤 _) $
     await ! tt $ pick ! (λ r. split ! $ split ! $ move ! (2 ∷ []) $ drop ! $
     move ! (1 ∷ []) $ feq_l ! (λ is_unit.
+    -- The end, and the return.
     lands_as ! (ap only is_unit) refl (tt, tt) $
     sets ! (of_opd ! (unit_lit !)) refl (tt, tt) $
     returns ! (look_at ! 0 refl) $ free_all ! refl $

@@ -79,6 +79,7 @@ allocate_spec 𝓤 𝓛 𝓜 𝓡 wired A L g d dd met md =
     -- [the tokens, with the lists and the size; the bound of the allocator's lifetime]
     move ! (1 ∷ []) $ nothing ! $ move ! (1 ∷ 0 ∷ []) $ join ! $ move ! (1 ∷ 0 ∷ []) $ join ! $
     use1 𝓛 (raw (G.pre z)) (id⊢ 𝓤 _) $
+    -- Here the code begins: `match self.take_block(size)`.
     enter ! _ _ _ _ _ $
     alloc_all ! (λ l. pass_all ! refl
     ((tt, tt), ((tt, record { fits = are.1.0.1 }), ((tt, record { fits = are.1.1.0.1 }), tt))) $
@@ -98,6 +99,7 @@ allocate_spec 𝓤 𝓛 𝓜 𝓡 wired A L g d dd met md =
     (λ b o s_le_block s_lt_limit value_is.
     use1 𝓛 (‵ (froom τ b o) ⊛ ‵ (block_back (g.dealloc_token h) τ (block_ptr b o)))
     (reuse 𝓛 (g.dealloc_token h) τ b o s layout_is.0 s_le_block s_lt_limit) $
+    -- The arm for a block: `Some(Block { address, .. }) => Ok(address)`.
     lands_as ! value_is refl (tt, (record { fits = lit< tt }, ((tt, (tt, tt)), tt))) $
     first ! $ switches_on ! (get_tag ! (vrt ! refl (fld ! refl (stop !))) (whole !)) $
     exec ! 𝓣.C 𝓣.Λ En (arm_body 0 (head (after 1 fn.body)))
@@ -116,6 +118,7 @@ allocate_spec 𝓤 𝓛 𝓜 𝓡 wired A L g d dd met md =
     nothing ! $ nothing ! $ join ! $ nothing ! $ join ! $ nothing ! $ join ! $
     move ! (3 ∷ 0 ∷ 1 ∷ 2 ∷ []) $ group ! 3 $ done !)
     (λ value_is.
+    -- The arm for no block: `None => Err(AllocError)`.
     lands_as ! value_is refl (tt, (record { fits = lit< tt }, tt)) $
     first ! $ switches_on ! (get_tag ! (vrt ! refl (fld ! refl (stop !))) (whole !)) $
     exec ! 𝓣.C 𝓣.Λ En (arm_body 1 (head (after 1 fn.body)))

@@ -98,6 +98,7 @@ deallocate_spec 𝓤 𝓛 𝓜 𝓡 wired A L g d dd met md =
     rewrite ! 0 (λ (j : ℕ). ‵ (block_at holds (block_units j) p)) layout_is.0 refl $
     move ! (2 ∷ []) $ split ! $ move ! (1 ∷ []) $ fsplit ! $ keep ! (0 ∷ 2 ∷ 3 ∷ 4 ∷ []) $
     -- [the lists; the tokens; the block; the bound of the allocator's lifetime]
+    -- Here the code begins.
     enter ! _ _ _ _ _ $
     alloc_all ! (λ l. pass_all ! refl (
       (tt, tt),
@@ -109,6 +110,7 @@ deallocate_spec 𝓤 𝓛 𝓜 𝓡 wired A L g d dd met md =
         ),
       ),
     ) $
+    -- `let given_by = PhantomData`, and `Block { address: ptr, given_by }`
     sets ! (agg ! (no_more !)) refl (tt, tt) $
     sets ! (agg ! (and_then ! (get ! refl) (and_then ! (get ! refl) (no_more !)))) refl
     (block_typed 𝓛 p).0 $
@@ -122,6 +124,7 @@ deallocate_spec 𝓤 𝓛 𝓜 𝓡 wired A L g d dd met md =
     (fact_i 𝓤 (block_units n ≡ block_units n) (emp 𝓤) refl) $
     use0 𝓛 (raw (fact 𝓤 (h ≡ h))) (fact_i 𝓤 (h ≡ h) (emp 𝓤) refl) $ join ! $
     move ! (1 ∷ 0 ∷ []) $ join ! $ move ! (1 ∷ 0 ∷ []) $ join ! $ use1 𝓛 (raw (G.pre z)) (id⊢ 𝓤 _) $
+    -- The call `self.give_back(.., size)`, and what it gives.
     calls_at ! (framed 𝓤 𝓛.H 𝓜 𝓣) G
     (met' 𝓤 𝓛 𝓜 𝓡 (code.calls-mm_room::reuse::Reusing::give_back 𝓡.env wired) A L g d dd met md) z
     (and_then ! (get ! refl) (and_then ! (get ! refl) (and_then ! (get ! refl) (no_more !)))) (λ v.
@@ -131,6 +134,7 @@ deallocate_spec 𝓤 𝓛 𝓜 𝓡 wired A L g d dd met md =
     ⊛ ‵ ftrue)))) (id⊢ 𝓤 _) $
     await ! tt $ pick ! (λ r. split ! $ split ! $ move ! (2 ∷ []) $ drop ! $
     move ! (1 ∷ []) $ feq_l ! (λ is_unit.
+    -- The end, and the return.
     lands_as ! (ap only is_unit) refl (tt, tt) $
     sets ! (of_opd ! (unit_lit !)) refl (tt, tt) $
     returns ! (look_at ! 0 refl) $ free_all ! refl $
