@@ -4,7 +4,7 @@ use Rattle.std.proofs.lemmas.Bool.Decides.{nat_tests}
 use Rattle.std.proofs.Common.{◌≡◌, ℕ, ◌+◌, ◌-◌, ◌<◌, ◌≤◌, Bool, true, false, ◌&&◌, ◌⊎◌, inl, inr}
 use Rattle.std.proofs.Common.{List, [], ◌∷◌, ◌++◌, length, take, drop, get_or, All, refl, sym, ap}
 use Rattle.std.proofs.Common.{ap₂, ◌∙◌, subst, arith, append_assoc, length-append, length-drop}
-use Rattle.std.proofs.Common.{slice_range, map, nat_eq, Result, Ok, Err, OnOk}
+use Rattle.std.proofs.Common.{slice_range, map, nat_eq, nat_lt, Result, Ok, Err, OnOk}
 use Rattle.std.proofs.Math.Bool.{and-true, and-false, and_assoc}
 use Rattle.std.proofs.Math.Seq.{get_or-append_seam}
 use Rattle.std.specs.List.{list_all, Contains, dedup}
@@ -24,7 +24,7 @@ use Rattle.mm_spec.specs.Derivation.{Formula, are_disjoint, is_disjoint_from, ar
 use Rattle.mm_spec.specs.Frame.{is_variable_number, symbol_names}
 use Rattle.mm_spec.specs.Citation.{context_at}
 use Rattle.mm_spec.proofs.BoolLaw.{same_tests}
-use Rattle.mm_nodes.specs.Strings.{no_body, string_of}
+use Rattle.mm_nodes.specs.Strings.{no_body, string_of, HaveSameSymbols}
 use Rattle.mm_nodes.proofs.StoreLaw.{range_of_front, range_behind}
 use Rattle.mm_nodes.specs.declared.heads.Segment.{Segment}
 use Rattle.mm_nodes.specs.Store.{segment}
@@ -105,6 +105,26 @@ module _ (db : List Statement) (f : Formula) (i s : ℕ) (i_lt_length : i < leng
         so_far.are_symbols (subst (λ z. z < length (symbol_names db)) (sym s_is)
         (are_symbols i s i_lt_length));
   }
+
+-- ---- the symbols of a formula in another order, or more often
+
+pub in_range_if_same : (n : ℕ) (u v : List ℕ) → HaveSameSymbols u v → All (λ s. s < n) u
+    → All (λ s. s < n) v
+in_range_if_same n u v have_same all_lt =
+    let below : ℕ → Bool = λ s. nat_lt s n in
+    All-weaker (λ s. below s ≡ true) (λ s. s < n) (λ s is_below. grind (arith, nat_tests)) v
+    (AllPass-from_list_all below v (sym (have_same below) ∙ list_all-from_AllPass below u
+    (All-weaker (λ s. s < n) (λ s. below s ≡ true) (λ s lt. grind (arith, nat_tests)) u all_lt)))
+
+pub variables_of_same : (db : List Statement) (u v xs ys : List ℕ) → HaveSameSymbols u v
+    → AppendsVariables db v xs ys → AppendsVariables db u xs ys
+variables_of_same db u v xs ys have_same appends = record {
+  variables = appends.variables;
+  list_is = appends.list_is;
+  have_same_variables = λ test constants_pass. have_same test
+      ∙ appends.have_same_variables test constants_pass;
+  are_symbols = appends.are_symbols;
+}
 
 -- ---- a segment after the others
 

@@ -124,8 +124,9 @@ impl<A: Allocator> DisjointCache<A> {
         }
     }
 
-    /// Lists the columns of symbols in the rows, and returns whether each has one.
-    pub fn list_columns(&mut self, symbols: &[Sym], columns: &mut Vec<usize, A>) -> bool
+    /// Sets `columns` to the bits of the columns that symbols have in the rows, and returns whether
+    /// each has one.
+    pub fn list_columns(&mut self, symbols: &[Sym], columns: &mut Vec<u64, A>) -> bool
         ensures stay_disjoint { (db : List Statement) (t : ℕ) → AreDisjointAt db t self.old
             → AreDisjointAt db t self.new }
         ensures are_columns { result ≡ true
@@ -135,7 +136,7 @@ impl<A: Allocator> DisjointCache<A> {
     }
 
     /// Whether a symbol is known to be disjoint from those that have these columns.
-    pub fn has_flags(&self, symbol: Sym, columns: &[usize]) -> bool
+    pub fn has_flags(&self, symbol: Sym, columns: &[u64]) -> bool
         ensures { result ≡ true → HasFlags self.now.rows symbol columns.now }
     {
         self.rows.has_flags(symbol, columns)

@@ -29,8 +29,8 @@ pub struct DistinctVariables<A: Allocator> {
     pub symbols: Vec<Sym, A>,
     /// For each listed body the segment of its variables in `symbols`.
     pub segments: Vec<Segment, A>,
-    /// The columns of a list of symbols in the rows of a `DisjointCache`.
-    pub columns: Vec<usize, A>,
+    /// The columns of a list of symbols in the rows of a `DisjointCache`, as bits.
+    pub columns: Vec<u64, A>,
     /// For each symbol the index at which it may be in `symbols`.
     slots: Vec<u32, A>,
 }
@@ -208,8 +208,7 @@ fn append_segment<A: Allocator>(
         (AppendsSegment database.now.statements (string_of nodes.old body) list.old.items
         list.new.items segments.old.items segments.new.items) }
 {
-    bodies.clear();
-    nodes.append_symbols(body, bodies)?;
+    nodes.list_symbols(body, bodies)?;
     let start = list.len();
     append_variables(database, bodies, list, slots)?;
     let end = list.len();

@@ -1,10 +1,11 @@
 //! Rows of flags that say which symbols are known to be disjoint.
 
-ghost use Rattle.std.specs.Prelude.{◌≡◌, ◌<◌, ◌∷◌, [], ℕ, length, get_or, true, false, IfSome};
-ghost use Rattle.std.specs.Prelude.{slice_set};
+ghost use Rattle.std.specs.Prelude.{◌≡◌, ◌<◌, ◌≤◌, ◌⊎◌, ◌∷◌, [], ℕ, length, get_or, true, IfSome};
+ghost use Rattle.mm_bits.specs.Bits.{is_bit};
 ghost use Rattle.mm_machine.specs.FlagRows.{flag_rows, AreColumnsOf, HasFlags, ExtendsSymbols};
 ghost use Rattle.mm_machine.specs.FlagRows.{StayDisjoint, StayDisjointWith};
 
+use mm_bits::{has_all, set};
 use mm_database::Sym;
 use mm_rule::{empty, put_number};
 use std::alloc::Allocator;
@@ -13,15 +14,18 @@ use std::marker::Model;
 /// How many symbols have a row at most, and how many flags a row has.
 pub const ROW_LENGTH: usize = 4_096;
 
+/// How many words the flags of a row take: a flag is a bit.
+pub const ROW_WORDS: usize = 64;
+
 /// A row of flags for each of some symbols. A flag says that the symbol of its row is disjoint from
-/// the symbol of its column. So what is known of a symbol and a list of others is asked at once.
+/// the symbol of its column. So what is known of a symbol and of many others is asked at once.
 pub struct FlagRows<A: Allocator> {
     /// The symbols that have a row and a column.
     symbols: Vec<Sym, A>,
     /// For each symbol the index at which it may be in `symbols`.
     slots: Vec<u32, A>,
     /// The rows, one after the other.
-    flags: Vec<bool, A>,
+    flags: Vec<u64, A>,
 }
 
 /// Dropped in one call: docs/PROOFS.md, "What a check costs".
@@ -121,8 +125,8 @@ impl<A: Allocator> FlagRows<A> {
         }
     }
 
-    /// Lists the columns of symbols, and returns whether each has one.
-    pub fn list_columns(&mut self, symbols: &[Sym], columns: &mut Vec<usize, A>) -> bool
+    /// Sets `columns` to the bits of the columns of symbols, and returns whether each has one.
+    pub fn list_columns(&mut self, symbols: &[Sym], columns: &mut Vec<u64, A>) -> bool
         ensures stay_disjoint { StayDisjoint self.old self.new }
         ensures are_columns { result ≡ true
             → AreColumnsOf self.new.symbols columns.new.items symbols.now }
@@ -133,7 +137,7 @@ impl<A: Allocator> FlagRows<A> {
                 None => return false,
                 Some(column) => column,
             };
-            if columns.push(column).is_err() {
+            if !add_column(column, columns) {
                 return false;
             }
         }
@@ -141,18 +145,18 @@ impl<A: Allocator> FlagRows<A> {
     }
 
     /// Whether a symbol's row has a flag in each of the columns.
-    pub fn has_flags(&self, symbol: Sym, columns: &[usize]) -> bool
+    pub fn has_flags(&self, symbol: Sym, columns: &[u64]) -> bool
         ensures { result ≡ true → HasFlags self.now symbol columns.now }
     {
         match self.find(symbol) {
             None => false,
             Some(row) => {
-                let start = row * ROW_LENGTH;
-                let end = start + ROW_LENGTH;
-                if end > self.flags.len() {
+                let start = row * ROW_WORDS;
+                let end = start + ROW_WORDS;
+                if end > self.flags.len() || columns.len() > ROW_WORDS {
                     return false;
                 }
-                has_each(columns, &self.flags[start..end])
+                has_all(&self.flags[start..end], columns)
             }
         }
     }
@@ -202,7 +206,7 @@ fn add_row<A: Allocator>(
     index: usize,
     symbols: &mut Vec<Sym, A>,
     slots: &mut Vec<u32, A>,
-    flags: &mut Vec<bool, A>,
+    flags: &mut Vec<u64, A>,
 ) -> Option<usize>
     requires index_is { index ≡ length symbols.old.items }
     requires index_lt_row_length { index < ROW_LENGTH }
@@ -217,7 +221,7 @@ fn add_row<A: Allocator>(
     if slot >= slots.len() && slots.resize(slot + 1, 0).is_err() {
         return None;
     }
-    if flags.resize((index + 1) * ROW_LENGTH, false).is_err() {
+    if flags.resize((index + 1) * ROW_WORDS, 0).is_err() {
         return None;
     }
     if symbols.push(symbol).is_err() {
@@ -228,28 +232,27 @@ fn add_row<A: Allocator>(
 }
 
 /// Sets a flag, if there is one at the index.
-fn set_flag(flags: &mut [bool], index: usize)
-    ensures { flags.new ≡ slice_set flags.old index true }
+fn set_flag(flags: &mut [u64], index: usize)
+    ensures { (k : ℕ) → is_bit flags.new k ≡ true → (is_bit flags.old k ≡ true) ⊎ (k ≡ index) }
 {
-    if index < flags.len() {
-        flags[index] = true;
+    if index / 64 < flags.len() {
+        set(flags, index);
     }
 }
 
-/// Whether a row has a flag in each of the columns.
-fn has_each(columns: &[usize], flags: &[bool]) -> bool
-    ensures in_range { result ≡ true → (k : ℕ) → k < length columns.now
-        → get_or columns.now k 0 < length flags.now }
-    ensures has_flags { result ≡ true → (k : ℕ) → k < length columns.now
-        → get_or flags.now (get_or columns.now k 0) false ≡ true }
+/// Sets the bit of a column, and returns whether there was memory for it.
+fn add_column<A: Allocator>(column: usize, columns: &mut Vec<u64, A>) -> bool
+    requires column_lt { column < ROW_LENGTH }
+    requires length_le { length columns.old.items ≤ ROW_WORDS }
+    ensures length_le { length columns.new.items ≤ ROW_WORDS }
+    ensures has_column { result ≡ true → is_bit columns.new.items column ≡ true }
+    ensures columns_stay { (k : ℕ) → is_bit columns.old.items k ≡ true
+        → is_bit columns.new.items k ≡ true }
 {
-    for column in columns {
-        if *column >= flags.len() {
-            return false;
-        }
-        if !flags[*column] {
-            return false;
-        }
+    let least = column / 64 + 1;
+    if least > columns.len() && columns.resize(least, 0).is_err() {
+        return false;
     }
+    set(columns, column);
     true
 }

@@ -146,7 +146,7 @@ fn is_disjoint_by_row<A: Allocator>(
     theorem: u32,
     symbol: Sym,
     others: &[Sym],
-    columns: &[usize],
+    columns: &[u64],
     cache: &mut DisjointCache<A>,
 ) -> bool
     requires theorem_lt_length { theorem < length database.now.statements }
@@ -180,7 +180,7 @@ fn are_all_disjoint_by_rows<A: Allocator>(
     theorem: u32,
     first: &[Sym],
     second: &[Sym],
-    columns: &mut Vec<usize, A>,
+    columns: &mut Vec<u64, A>,
     cache: &mut DisjointCache<A>,
 ) -> bool
     requires theorem_lt_length { theorem < length database.now.statements }
@@ -212,7 +212,7 @@ fn lists_are_disjoint<A: Allocator>(
     theorem: u32,
     first: &[Sym],
     second: &[Sym],
-    columns: &mut Vec<usize, A>,
+    columns: &mut Vec<u64, A>,
     cache: &mut DisjointCache<A>,
 ) -> bool
     requires theorem_lt_length { theorem < length database.now.statements }
@@ -265,7 +265,7 @@ fn pairs_are_disjoint<A: Allocator>(
     listed: &[u32],
     symbols: &[Sym],
     segments: &[Segment],
-    columns: &mut Vec<usize, A>,
+    columns: &mut Vec<u64, A>,
     cache: &mut DisjointCache<A>,
 ) -> bool
     requires theorem_lt_length { theorem < length database.now.statements }

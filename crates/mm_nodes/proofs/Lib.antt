@@ -3,3 +3,4 @@ pub mod StringLaw
 pub mod StoreLaw
 mod WalkLaw
 mod OverlapLaw
+mod ReachedLaw

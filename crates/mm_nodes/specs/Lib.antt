@@ -1,3 +1,4 @@
 pub mod Strings
 pub mod Store
 pub mod Overlaps
+pub mod Reached

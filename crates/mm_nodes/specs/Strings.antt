@@ -1,6 +1,7 @@
 -- What strings bodies stand for.
 use Rattle.std.specs.Prelude.{ℕ, ◌+◌, ◌-◌, ◌<◌, ◌≡◌, List, [], ◌∷◌, ◌++◌, length, get_or, nat_lt}
-use Rattle.std.specs.Prelude.{if◌then◌else◌, flat_map}
+use Rattle.std.specs.Prelude.{if◌then◌else◌, flat_map, Bool}
+use Rattle.std.specs.List.{list_all}
 
 -- the least body that is a node: a smaller one is a symbol
 abbrev pub first_node : ℕ
@@ -52,3 +53,8 @@ pub record IsMade (nodes nodes' : List (List ℕ)) (bodies : List ℕ) (b : ℕ)
   pub is_body : 0 < length bodies → IsBody nodes' b
   pub is_none : length bodies ≡ 0 → b ≡ no_body
   pub string_is : string_of nodes' b ≡ joined_string_of nodes bodies
+
+-- The two lists have the same symbols, be it in another order or more often: each test that all
+-- symbols of one list pass is one that all of the other pass.
+abbrev pub HaveSameSymbols : List ℕ → List ℕ → Type 0
+HaveSameSymbols u v = (test : ℕ → Bool) → list_all test u ≡ list_all test v

@@ -17,6 +17,7 @@ mod copy;
 mod facts;
 mod heads;
 mod nodes;
+mod reached;
 mod walk;
 
 pub use body::Body;

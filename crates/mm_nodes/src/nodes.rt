@@ -3,13 +3,14 @@
 ghost use Rattle.std.specs.Prelude.{◌≡◌, ◌<◌, ◌≤◌, ◌++◌, ◌∷◌, [], length, take, All, OnOk, OnErr};
 ghost use Rattle.std.specs.Prelude.{IfOk, IfSome, bytes_eq, true, List, ℕ};
 ghost use Rattle.mm_nodes.specs.Strings.{first_node, string_of, joined_string_of, IsBody, IsMade};
-ghost use Rattle.mm_nodes.specs.Strings.{Extends};
+ghost use Rattle.mm_nodes.specs.Strings.{Extends, HaveSameSymbols};
 ghost use Rattle.mm_nodes.specs.Store.{nodes_of, AreNodes, IsBodySegment, segment_string};
 
 use crate::body::Body;
 use crate::body_list::BodyList;
 use crate::facts::{Overlap, are_equal_by_parts};
 use crate::heads::{Head, Segment};
+use crate::reached::{Reached, list_symbols};
 use crate::walk::{append_all, are_equal, bodies_of, length_of, segment_of};
 use std::alloc::{AllocError, Allocator};
 use std::marker::Model;
@@ -37,6 +38,8 @@ pub struct Nodes<A: Allocator> {
     pending: Vec<Overlap, A>,
     /// What of that was seen before.
     seen: Vec<Overlap, A>,
+    /// The nodes of a string whose symbols are listed once.
+    reached: Reached<A>,
 }
 
 /// Dropped in one call: docs/PROOFS.md, "What a check costs".
@@ -49,6 +52,7 @@ impl<A: Allocator> Drop for Nodes<A> {
             right: _,
             pending: _,
             seen: _,
+            reached: _,
         } = self;
     }
 }
@@ -86,6 +90,7 @@ impl<A: Allocator> Nodes<A> {
             right: Vec::new(alloc),
             pending: Vec::new(alloc),
             seen: Vec::new(alloc),
+            reached: Reached::new(alloc),
         }
     }
 
@@ -99,6 +104,7 @@ impl<A: Allocator> Nodes<A> {
         empty(&mut self.right);
         empty(&mut self.pending);
         empty(&mut self.seen);
+        self.reached.clear(MAX_ELEMENTS_KEPT);
     }
 
     /// How many nodes there are.
@@ -297,6 +303,30 @@ impl<A: Allocator> Nodes<A> {
                 let opened = segment_of(&self.heads, index);
                 let bodies = self.bodies.as_slice();
                 append_all(&self.heads, bodies, opened, &mut self.left, list)
+            }
+        }
+    }
+
+    /// Replaces a list by the symbols of a body's string. Those of a node are listed once, however
+    /// often the string has the node, so that this takes no more steps than the nodes have bodies.
+    pub fn list_symbols(&mut self, body: Body, list: &mut Vec<Body, A>) -> Result<(), AllocError>
+        ensures nodes_unchanged { self.new ≡ self.old }
+        ensures symbols_are_same { OnOk result
+            (HaveSameSymbols (string_of self.old body) list.new.items) }
+    {
+        list.clear();
+        match body.index() {
+            None => {
+                list.push(body)?;
+                Ok(())
+            }
+            Some(index) => {
+                if index >= self.heads.len() {
+                    return Ok(());
+                }
+                self.reached.clear(MAX_ELEMENTS_KEPT);
+                let bodies = self.bodies.as_slice();
+                list_symbols(&self.heads, bodies, index, &mut self.reached, list)
             }
         }
     }

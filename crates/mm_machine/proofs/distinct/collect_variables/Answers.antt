@@ -1,7 +1,7 @@
-use Rattle.std.proofs.Common.{◌≡◌, ◌∙◌, ℕ, List, ap₂, get_or, sym, subst}
+use Rattle.std.proofs.Common.{◌∙◌, ℕ, List, subst}
 use Rattle.std.proofs.lemmas.List.{get_or_default}
 use Rattle.mm_nodes.specs.Strings.{no_body, string_of}
-use Rattle.mm_machine.specs.Distinct.{AppendsSegment, HasSymbols}
+use Rattle.mm_machine.specs.Distinct.{AppendsSegment}
 use Rattle.mm_machine.proofs.DistinctLaw.{next_segment}
 use Rattle.mm_machine.proofs.distinct.collect_variables.Goals as goal
 

@@ -1,8 +1,8 @@
-use Rattle.std.proofs.Common.{◌≡◌, ◌<◌, ◌∙◌, ◌++◌, ◌∷◌, [], ℕ, List, All, get_or, drop, length, ap}
+use Rattle.std.proofs.Common.{◌≡◌, ◌<◌, ◌∙◌, ◌++◌, ℕ, List, drop, length, ap}
 use Rattle.std.proofs.Common.{ap₂, sym, subst, arith}
 use Rattle.std.proofs.lemmas.Bool.Decides.{nat_tests}
-use Rattle.std.proofs.lemmas.List.{take_rest, get_or_default}
-use Rattle.std.proofs.lemmas.List.Elements.{All-drop, All-get_or}
+use Rattle.std.proofs.lemmas.List.{take_rest}
+use Rattle.std.proofs.lemmas.List.Elements.{All-drop}
 use Rattle.mm_nodes.specs.Strings.{first_node, string_of, joined_string_of}
 use Rattle.mm_machine.proofs.EntryMatchLaw.{begins_with}
 use Rattle.mm_machine.proofs.FilledLaw.{symbol_string_is}

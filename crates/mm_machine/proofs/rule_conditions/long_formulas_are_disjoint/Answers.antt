@@ -1,4 +1,4 @@
-use Rattle.std.proofs.Common.{ap, ap₂, ◌∙◌, subst, ℕ, List, sym}
+use Rattle.std.proofs.Common.{ap₂, ◌∙◌, ℕ, List}
 use Rattle.std.specs.List.{list_all}
 use Rattle.mm_machine.specs.Distinct.{are_strings_disjoint}
 use Rattle.mm_machine.proofs.DistinctLaw.{asked_tell}

@@ -1,8 +1,7 @@
-use Rattle.std.proofs.Common.{◌≡◌, ◌∙◌, ◌-◌, ℕ, get_or, sym, arith, refl, take, true}
-use Rattle.std.specs.List.{list_all}
+use Rattle.std.proofs.Common.{◌∙◌, sym}
 use Rattle.std.proofs.lemmas.List.Folds.{list_all_at}
 use Rattle.mm_machine.specs.Distinct.{are_strings_disjoint}
-use Rattle.mm_machine.proofs.DistinctLaw.{disjoint_by_variables, same_as_before}
+use Rattle.mm_machine.proofs.DistinctLaw.{disjoint_by_variables}
 use Rattle.mm_machine.proofs.OwnersLaw.{list_all_next}
 use Rattle.mm_machine.proofs.rule_conditions.pairs_are_disjoint.Goals as goal
 

@@ -1,11 +1,11 @@
-use Rattle.std.proofs.Common.{◌≡◌, ◌<◌, ℕ, length, get_or}
-use Rattle.mm_machine.specs.FlagRows.{StayDisjoint, IsColumnOf}
+use Rattle.std.proofs.Common.{◌≤◌, length, take}
+use Rattle.mm_machine.specs.declared.flag_rows.TheConstants.{ROW_WORDS}
+use Rattle.mm_machine.specs.FlagRows.{StayDisjoint, AreColumnsOf}
 use Rattle.mm_machine.proofs.flag_rows.FlagRows.list_columns.Given as goal
 
 abbrev pub invariant-loop-symbol : goal.invariant-loop-symbol
 invariant-loop-symbol g l = record {
   stay_disjoint : StayDisjoint l.initial.self l.self;
-  length_is : length l.columns.items ≡ l.symbol-index;
-  are_columns : (k : ℕ) → k < l.symbol-index
-      → IsColumnOf l.self.symbols (get_or l.columns.items k 0) (get_or l.symbols k 0);
+  length_le : length l.columns.items ≤ ROW_WORDS;
+  are_columns : AreColumnsOf l.self.symbols l.columns.items (take l.symbol-index l.symbols);
 }

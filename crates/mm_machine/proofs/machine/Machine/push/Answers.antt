@@ -1,8 +1,6 @@
 use Rattle.std.proofs.lemmas.Grind.{common_steps}
-use Rattle.std.proofs.Common.{◌≡◌, ◌<◌, ◌++◌, ◌∷◌, ◌∙◌, [], List, Bool, All, OnOk, length, refl, ap}
+use Rattle.std.proofs.Common.{◌<◌, ◌∷◌, ◌∙◌, [], All, length, refl, ap}
 use Rattle.std.proofs.Common.{sym, subst, arith}
-use Rattle.mm_machine.specs.Entries.{entry_formulas}
-use Rattle.mm_machine.specs.State.{machine_state}
 use Rattle.mm_machine.proofs.MachineLaw.{pushed_state}
 use Rattle.mm_machine.proofs.MaskedLaw.{pushed_keeping, pair_is}
 use Rattle.mm_machine.proofs.StackLaw.{extends_unchanged}

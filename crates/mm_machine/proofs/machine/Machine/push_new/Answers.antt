@@ -1,5 +1,4 @@
-use Rattle.std.proofs.lemmas.Grind.{common_steps}
-use Rattle.std.proofs.Common.{◌≡◌, ◌<◌, ◌++◌, ◌∷◌, ◌∙◌, [], List, Bool, All, OnOk, length, refl, ap}
+use Rattle.std.proofs.Common.{◌≡◌, ◌<◌, ◌++◌, ◌∷◌, ◌∙◌, [], List, Bool, All, OnOk, length, ap}
 use Rattle.std.proofs.Common.{sym, subst, arith}
 use Rattle.mm_machine.specs.Entries.{entry_formulas}
 use Rattle.mm_machine.specs.State.{machine_state}
