@@ -45,7 +45,9 @@ fn any_symbol() -> Overlap
     }
 }
 
-/// The slot of a fact.
+/// The slot of a fact, by its numbers mixed. The factors are odd numbers whose bits look random:
+/// the first is of xxHash, the others are as in MurmurHash's last step. Any would do, since a slot
+/// only says where to look.
 fn slot_of(overlap: Overlap, slots: usize) -> usize
     requires { 0 < slots }
     ensures { result < slots }

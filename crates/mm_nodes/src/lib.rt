@@ -6,9 +6,10 @@
 //!
 //! A caller makes a [`Nodes`] once, makes bodies of others with [`Nodes::make`], compares them with
 //! [`Nodes::is_equal`], reads their symbols with [`Nodes::append_symbols`] and the bodies of a node
-//! with [`Nodes::bodies`], and gives up the last nodes with [`Nodes::truncate`]. No call is
-//! recursive, however deep nodes are nested. Two strings are compared by a walk over both; long
-//! ones before that by their parts, of which there can be far fewer than symbols.
+//! with [`Nodes::bodies`], and gives up the last nodes with [`Nodes::truncate`]. Which symbols a
+//! string has, in whatever order, it asks with [`Nodes::list_symbols`]. No call is recursive,
+//! however deep nodes are nested. Two strings are compared by a walk over both; long ones before
+//! that by their parts, of which there can be far fewer than symbols.
 #![tactic(auto)]
 
 mod body;

@@ -324,7 +324,7 @@ impl<A: Allocator> Nodes<A> {
                 if index >= self.heads.len() {
                     return Ok(());
                 }
-                self.reached.clear(MAX_ELEMENTS_KEPT);
+                self.reached.empty();
                 let bodies = self.bodies.as_slice();
                 list_symbols(&self.heads, bodies, index, &mut self.reached, list)
             }

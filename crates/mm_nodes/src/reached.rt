@@ -52,7 +52,14 @@ impl<A: Allocator> Reached<A> {
         }
     }
 
-    /// Removes all nodes, and frees the memory of long lists.
+    /// Removes all nodes.
+    pub fn empty(&mut self)
+        ensures { self.new ≡ [] }
+    {
+        self.nodes.clear();
+    }
+
+    /// Removes all nodes, and frees the memory of lists with more than `most_kept` elements.
     pub fn clear(&mut self, most_kept: usize)
         ensures { self.new ≡ [] }
     {

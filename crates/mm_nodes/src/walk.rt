@@ -1,4 +1,6 @@
-//! Walks over strings, without recursion.
+//! Walks over strings, without recursion. What is still to be read is put off in lists that the
+//! caller lends and that are emptied first (`later`), so that their memory is used again. `heads`
+//! has for each node where its bodies are (`heads.rt`).
 
 ghost use Rattle.std.specs.Prelude.{◌≡◌, ◌<◌, ◌≤◌, ◌+◌, ◌-◌, ◌++◌, [], ◌∷◌, length, OnOk, IfOk};
 ghost use Rattle.std.specs.Prelude.{get_or, slice_index_or, List, bytes_eq, IfNone, IfSome, min};
