@@ -12,6 +12,8 @@ from tests.browser.truth import Truth, as_shown, definitions
 from tests.shared.checks import check, same
 
 LEAST_CONTRAST = 4.5  # of text, as level AA of WCAG 2 wants it
+SMALL_TELEPHONE, TELEPHONE, TABLET = 320, 390, 768  # how wide their screens are, in dots
+HEIGHT = 844  # of the telephone's
 TALLEST = 8000  # dots of the overview on a telephone
 BEST = 3  # a label typed whole is among the first so many
 MOST_COMMENTS = 8  # of each three words are searched
@@ -324,17 +326,17 @@ def check_looks(browser: Browser, page: Path, views: list[str], folder: Path) ->
 def check_narrow(browser: Browser, page: Path, views: list[str], folder: Path) -> None:
     """Views fit into the width of a telephone: in a frame, since no window is that narrow."""
     frame = folder / "frame.html"
-    for width in (320, 390, 768):
+    for width in (SMALL_TELEPHONE, TELEPHONE, TABLET):
         for view in views:
             name = f"{browser.name} {page.name}{view} at {width}"
             if browser.name == "chromium":
-                browser.size(width, 844)
+                browser.size(width, HEIGHT)
                 browser.open(page, view)
                 document = "document"
             else:
                 frame.write_text(
                     f'<!doctype html><iframe src="{page.as_uri()}{view}" width="{width}"'
-                    ' height="844" style="border:0"></iframe>'
+                    f' height="{HEIGHT}" style="border:0"></iframe>'
                 )
                 browser.go(frame.as_uri())
                 document = "document.querySelector('iframe').contentDocument"
@@ -351,7 +353,7 @@ def check_narrow(browser: Browser, page: Path, views: list[str], folder: Path) -
             seen, broken = browser.run(BROKEN_LABELS.replace("DOCUMENT", document))
             check(seen > 0, f"{name}: there are labels", seen)
             same(broken, [], f"{name}: labels that are broken at the end of a line")
-            if view == "" and width == 390:
+            if view == "" and width == TELEPHONE:
                 check(tall <= TALLEST, f"{name}: the overview isn't too tall", tall)
     browser.size(*WINDOW)
 

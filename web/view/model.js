@@ -449,8 +449,8 @@ export class Model {
 }
 
 /**
- * The hypotheses of each assertion. Those of open blocks come again, so the first gap is from the first hypothesis of
- * the assertion before.
+ * The hypotheses of each assertion, as `packHypotheses` of blocks.js writes them: the first gap is from the first
+ * hypothesis of the assertion before, and odd where it goes back.
  * @param {BlockSource} blocks
  */
 function readHypotheses(blocks) {
