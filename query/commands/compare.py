@@ -1,7 +1,8 @@
 """`compare`: what became of theorems and axioms from one release to the next."""
 
 import argparse
-from collections.abc import Iterator
+from collections.abc import Iterator, Mapping
+from dataclasses import dataclass
 
 from query.answers.errors import NoAnswer, shown
 from query.answers.output import Value
@@ -12,6 +13,7 @@ from query.comparisons.changed_statements import COLUMNS as BOTH, Change, change
 from query.comparisons.changes import Comparison, side_by_side
 from query.comparisons.pairing import SAME_THEOREM, Pairing
 from query.program.source import is_same_file
+from query.spare.relations import relations
 
 Row = tuple[Value, ...]
 COLUMNS = ("change", "kind", "label", "was", "axiom", "citing", "cited", *BOTH)
@@ -40,6 +42,14 @@ others; with AXIOM.., all lines are about these.
   old, new for `changed` both statements: the formula, and before it the hypotheses where these
            differ, and the pairs of distinct variables that only one of both has. Where one of them
            is long, they are cut: `..` stands for what is left out
+  how      for `changed` what the new statement is beside the old one, as far as one step shows it:
+           weaker   the same, with more hypotheses or more conditions of distinct variables
+           instance what the old one says with other formulas for its variables
+           stronger the old one is weaker than the new one
+           general  the old one is an instance of the new one
+           same     each of both says what the other says
+           Where there is nothing, none of these was seen; one may follow from the other by more
+           than one step. Only the first 2000 changed statements are looked at
 
 First come the theorems, in file order, then each axiom with what was gained and lost of it. With
 AXIOM.. a changed theorem is listed where only one of its statements rests on one of these. What
@@ -59,16 +69,37 @@ def configure(parser: Parser) -> None:
     add_choice_of_axioms(parser)
 
 
-def change_rows(comparison: Comparison, kind: str, most: int) -> Iterator[Row]:
-    """What is new, renamed, changed and gone of the theorems, or of the axioms. Of what was changed
-    so many characters of both statements are told at the most."""
+@dataclass(frozen=True)
+class Telling:
+    """How changed statements are told: with so many characters at the most, and how the new one is
+    related to the old one, by labels."""
+
+    most: int
+    hows: Mapping[str, str]
+
+
+def hows_of(comparison: Comparison) -> dict[str, str]:
+    """For each assertion that was changed how its new statement is related to the old one."""
+    told = comparison.differences
+    labels = [*comparison.axioms.changed, *comparison.theorems.changed]
+    if not labels:
+        return {}
+    syntax = [*comparison.text.assertions, *told.gone.values()]
+    pairs = [(told.gone[label], told.new[label]) for label in labels]
+    typecode = comparison.new.database.options.only or "|-"
+    found = zip(labels, relations(syntax, pairs, typecode))
+    return {label: how for label, how in found if how}
+
+
+def change_rows(comparison: Comparison, kind: str, telling: Telling) -> Iterator[Row]:
+    """What is new, renamed, changed and gone of the theorems, or of the axioms."""
     pairing = comparison.theorems if kind == "theorem" else comparison.axioms
     nothing = (None,) * (len(COLUMNS) - 4)
     for label in pairing.new:
         yield ("new", kind, label, None, *nothing)
     for label, old in pairing.renamed.items():
         yield ("renamed", kind, label, old, *nothing)
-    for each in changes(comparison, kind, most):
+    for each in changes(comparison, kind, telling.most, telling.hows):
         yield ("changed", kind, each.label, None, None, None, None, *each[1:])
     for label in pairing.gone:
         yield ("gone", kind, label, None, *nothing)
@@ -81,7 +112,7 @@ def shifts_of(comparison: Comparison, old: str | None, new: str | None) -> Itera
             continue
         for shift in comparison.shifts(axiom, lost=change == "lost"):
             why = (axiom, shift.citing, shift.cited)
-            yield (change, "theorem", shift.theorem, None, *why, None, None, None)
+            yield (change, "theorem", shift.theorem, None, *why, *[None] * len(BOTH))
 
 
 def axioms_of(comparison: Comparison) -> list[tuple[str | None, str | None]]:
@@ -105,10 +136,10 @@ def see_axioms(comparison: Comparison, labels: list[str]) -> None:
             raise NoAnswer(f"neither {names} has an axiom '{shown(label)}' among those chosen")
 
 
-def about_axioms(comparison: Comparison, named: list[str], most: int) -> Iterator[Row]:
+def about_axioms(comparison: Comparison, named: list[str], telling: Telling) -> Iterator[Row]:
     """The rows about each axiom, or about those named."""
     about: dict[str, list[Row]] = {}
-    for row in change_rows(comparison, "axiom", most):
+    for row in change_rows(comparison, "axiom", telling):
         about.setdefault(str(row[2]), []).append(row)
     for old, new in axioms_of(comparison):
         if named and old not in named and new not in named:
@@ -119,10 +150,10 @@ def about_axioms(comparison: Comparison, named: list[str], most: int) -> Iterato
         yield from shifts_of(comparison, old, new)
 
 
-def about_theorems(comparison: Comparison, named: list[str], most: int) -> Iterator[Row]:
+def about_theorems(comparison: Comparison, named: list[str], telling: Telling) -> Iterator[Row]:
     """The rows about theorems; where axioms are named, of those that say something else now, and of
     which only one of both statements rests on one of the axioms."""
-    rows = change_rows(comparison, "theorem", most)
+    rows = change_rows(comparison, "theorem", telling)
     if not named:
         yield from rows
         return
@@ -167,17 +198,23 @@ def run(context: Context, arguments: argparse.Namespace) -> int:
     """Answers."""
     comparison = compared(context, arguments)
     see_axioms(comparison, arguments.axiom)
-    most = most_of(context.out.format)
-    rows = [*about_theorems(comparison, arguments.axiom, most)]
-    rows += about_axioms(comparison, arguments.axiom, most)
+    telling = Telling(most_of(context.out.format), hows_of(comparison))
+    rows = [*about_theorems(comparison, arguments.axiom, telling)]
+    rows += about_axioms(comparison, arguments.axiom, telling)
     empty = why_empty(arguments, comparison, "don't differ in this")
     remarks = the_same_theorems(comparison.theorems, comparison.axioms)
     context.table(COLUMNS, rows, empty, aside=BOTH, remarks=remarks)
     if context.out.format == "text":
         changed = [row for row in rows if row[0] == "changed"]
-        for line in lines_of(Change(*map(str, (row[2], *row[7:]))) for row in changed):
+        for line in lines_of(change_in(row) for row in changed):
             context.out.line(line)
     return 0
+
+
+def change_in(row: Row) -> Change:
+    """What a row says that was changed."""
+    differ, old, new, how = row[-len(BOTH) :]
+    return Change(str(row[2]), str(differ), str(old), str(new), None if how is None else str(how))
 
 
 COMMANDS = [Command("compare", PAGE, configure, run)]

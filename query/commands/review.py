@@ -9,12 +9,13 @@ from query.answers.output import Value
 from query.arguments.context import Context
 from query.arguments.options import Parser, add_choice_of_axioms, add_database
 from query.commands import TABLE_FORMATS, Command
-from query.commands.compare import compared, the_same_theorems, why_empty
+from query.commands.compare import Telling, compared, hows_of, the_same_theorems, why_empty
 from query.comparisons.causes import Causes
 from query.comparisons.changed_statements import (
     COLUMNS as BOTH,
     Change,
     changes as both_statements,
+    in_words,
     lines_of,
     most_of,
 )
@@ -52,6 +53,7 @@ via      for each axiom gained, by what: of the first new citation on a shortest
 bytes    how much longer its text is, from the label to the end; of a new one how long
 differ   of a changed one in what its statements differ, in words
 old, new both statements of a changed one, as `compare` tells them
+how      what the new one is beside the old one, as `compare` tells it
 
 As text the edits that let axioms in stand first: which proof newly cites what, how many theorems of
 both came to rest on each axiom by that, and how many fewer would without the new citations of that
@@ -93,7 +95,7 @@ class Outcome:
     def row(self) -> list[Value]:
         """Its row of the table."""
         lists = [self.gained, self.lost, self.via]
-        both = (None, None, None) if self.change is None else self.change[1:]
+        both = [None] * len(BOTH) if self.change is None else self.change[1:]
         return [self.label, self.status, self.was, self.axioms, *lists, self.bytes, *both]
 
 
@@ -108,12 +110,13 @@ def run(context: Context, arguments: argparse.Namespace) -> int:
     """Answers."""
     comparison = compared(context, arguments)
     causes = Causes(comparison)
-    changes = changes_of(comparison, most_of(context.out.format), causes)
+    telling = Telling(most_of(context.out.format), hows_of(comparison))
+    changes = changes_of(comparison, telling, causes)
     empty = why_empty(
         arguments, comparison, "have the same theorems, with the same proofs, in one order"
     )
     if context.out.format == "markdown":
-        context.out.text(comment(comparison, changes, causes))
+        context.out.text(comment(comparison, changes, causes, telling))
         return 0
     counts = axioms_in_words(comparison, cut)
     counts += "".join(f"; {each}" for each in definitions_in_words(comparison, cut))
@@ -143,9 +146,9 @@ def changed_axioms(comparison: Comparison) -> dict[str, list[str]]:
     }
 
 
-def changes_of(comparison: Comparison, most: int, causes: Causes) -> list[Outcome]:
-    """What became of each theorem that the change is about, with at most so many characters of the
-    statements of changed ones. What let axioms in is added to `causes`."""
+def changes_of(comparison: Comparison, telling: Telling, causes: Causes) -> list[Outcome]:
+    """What became of each theorem that the change is about. What let axioms in is added to
+    `causes`."""
     old, new = comparison.old_text, comparison.text
     pairing = comparison.theorems
     fresh = set(pairing.new)
@@ -178,7 +181,7 @@ def changes_of(comparison: Comparison, most: int, causes: Causes) -> list[Outcom
             found[one.label] = change
     for label in (*fresh, *comparison.restated):
         found[label].axioms = number_of_axioms(comparison, label)
-    for each in both_statements(comparison, "theorem", most):
+    for each in both_statements(comparison, "theorem", telling.most, telling.hows):
         found[each.label].change = each
     add_shifts(comparison, found, causes)
     gone = [Outcome(label, ["gone"], bytes=-length(old, label)) for label in pairing.gone]
@@ -229,7 +232,9 @@ def out_of_order(numbered: Iterable[tuple[str, int]]) -> set[str]:
     return {label for place, (label, _) in enumerate(pairs) if place not in stayed}
 
 
-def comment(comparison: Comparison, changes: Sequence[Outcome], causes: Causes) -> str:
+def comment(
+    comparison: Comparison, changes: Sequence[Outcome], causes: Causes, telling: Telling
+) -> str:
     """The comment for a pull request. What comes from a database stands as code, in which nothing
     is a link or a mention, and labels have no sign that would end it."""
     counts = {word: sum(word in each.status for each in changes) for word in STATUSES}
@@ -255,17 +260,19 @@ def comment(comparison: Comparison, changes: Sequence[Outcome], causes: Causes) 
     if len(changes) > SHOWN_ROWS:
         more = f"{len(changes) - SHOWN_ROWS} more aren't shown"
         lines += ["", f"{more}; `mmquery review` lists them."]
-    lines += statement_lines(comparison, changes)
+    lines += statement_lines(comparison, changes, telling)
     return "\n".join(lines) + "\n"
 
 
-def statement_lines(comparison: Comparison, changes: Sequence[Outcome]) -> list[str]:
+def statement_lines(
+    comparison: Comparison, changes: Sequence[Outcome], telling: Telling
+) -> list[str]:
     """Both statements of what was changed, first of axioms, and then of theorems."""
-    axioms = both_statements(comparison, "axiom", most_of("markdown"))
+    axioms = both_statements(comparison, "axiom", telling.most, telling.hows)
     changed = [*axioms, *(each.change for each in changes if each.change is not None)]
     lines = ["", "**Changed statements**:", ""] if changed else []
     for each in changed[:SHOWN_ROWS]:
-        lines += [f"- {code(each.label)}: {each.differ}"]
+        lines += [f"- {code(each.label)}: {in_words(each)}"]
         lines += [f"  - was {fenced(each.old)}", f"  - is {fenced(each.new)}"]
     if len(changed) > SHOWN_ROWS:
         more = f"{len(changed) - SHOWN_ROWS} more aren't shown"

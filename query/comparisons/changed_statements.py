@@ -6,15 +6,31 @@ The formula is always there; of the rest what differs. It is cut where it is lon
 
 from __future__ import annotations
 
-from collections.abc import Iterable, Iterator
+from collections.abc import Iterable, Iterator, Mapping
+from types import MappingProxyType
 from typing import NamedTuple
 
 from query.answers.excerpts import cut, cut_both
 from query.comparisons.changes import Comparison
-from query.comparisons.pairing import DISTINCT, FORMULA, HYPOTHESES, OTHER_NAMES
+from query.comparisons.pairing import (
+    DISTINCT,
+    FORMULA,
+    HYPOTHESES,
+    OTHER_NAMES,
+    SAME_THEOREM,
+)
 from query.texts.assertions import Assertion, Frame, Pair
 
-COLUMNS = ("differ", "old", "new")
+BOTH = ("differ", "old", "new")
+COLUMNS = (*BOTH, "how")
+HOW = {
+    "same": "each of both says what the other says",
+    "weaker": "the new one is weaker",
+    "instance": "the new one is an instance of the old one",
+    "stronger": "the new one is stronger",
+    "general": "the old one is an instance of the new one",
+}
+"""What a statement is beside the one that its label had before, in words."""
 MOST_PAIRS = 10_000
 """So many pairs of distinct variables of an assertion are told one by one at the most."""
 SHOWN_STATEMENT, TOLD_STATEMENT = 300, 1000
@@ -22,12 +38,14 @@ SHOWN_STATEMENT, TOLD_STATEMENT = 300, 1000
 
 
 class Change(NamedTuple):
-    """An assertion that was changed: in what its statements differ, in words, and both of them."""
+    """An assertion that was changed: in what its statements differ, in words, both of them, and how
+    the new one is related to the old one, one of HOW, None where that isn't known."""
 
     label: str
     differ: str
     old: str
     new: str
+    how: str | None = None
 
 
 def most_of(form: str) -> int:
@@ -35,12 +53,19 @@ def most_of(form: str) -> int:
     return TOLD_STATEMENT if form in ("tsv", "csv", "json") else SHOWN_STATEMENT
 
 
-def changes(comparison: Comparison, kind: str, most: int) -> Iterator[Change]:
-    """The theorems that were changed, or the axioms, in the order of NEW."""
+def changes(
+    comparison: Comparison,
+    kind: str,
+    most: int,
+    hows: Mapping[str, str] = MappingProxyType({}),
+) -> Iterator[Change]:
+    """The theorems that were changed, or the axioms, in the order of NEW. `hows` has for their
+    labels how both statements are related, where that is known."""
     pairing = comparison.theorems if kind == "theorem" else comparison.axioms
     told = comparison.differences
     for label, differ in pairing.changed.items():
-        yield change_of(told.gone[label], told.new[label], differ, most)
+        change = change_of(told.gone[label], told.new[label], differ, most)
+        yield change._replace(how=hows.get(label))
 
 
 def change_of(before: Assertion, after: Assertion, differ: str, most: int) -> Change:
@@ -84,10 +109,16 @@ def pairs_lacking(some: dict[Pair, None], other: dict[Pair, None]) -> str:
     return "".join(f"$d {one} {two} $. " for one, two in some if (one, two) not in other)
 
 
+def in_words(change: Change) -> str:
+    """In what both statements differ, and how the new one is related to the old one."""
+    is_said = change.how is None or change.differ in SAME_THEOREM
+    return change.differ if is_said else f"{change.differ}; {HOW[str(change.how)]}"
+
+
 def lines_of(changes: Iterable[Change]) -> Iterator[str]:
     """What a person is told of these, behind a table."""
     for each in changes:
         yield ""
-        yield f"{cut(each.label)}: {each.differ}"
+        yield f"{cut(each.label)}: {in_words(each)}"
         yield f"  was  {each.old}"
         yield f"  is   {each.new}"

@@ -72,7 +72,7 @@ class Rules:
         self._known = self.restored(kept) if kept is not None else iter(())
         self._rules: list[Rule] = []
         self._has_fixed_typecodes = has_fixed_typecodes(self.floating)
-        for assertion in text.assertions:
+        for assertion in progress.counted(text.assertions, "reading the formulas"):
             self._rules.append(self.rule(assertion))
 
     def __len__(self) -> int:

@@ -8,6 +8,7 @@ from collections import Counter
 from itertools import permutations, product
 from unittest import mock
 
+from query.comparisons.changed_statements import HOW
 from query.comparisons.pairing import OTHER_NAMES, are_alike, difference, statement_of
 from query.tests import replay
 from query.tests.world import SMALL, World, asked, built_program, database_text
@@ -15,7 +16,19 @@ from query.texts.assertions import Assertion
 from tests.shared.generations import Generation, Part, generation, next_generation
 
 Row = dict[str, str]
-COLUMNS = ("change", "kind", "label", "was", "axiom", "citing", "cited", "differ", "old", "new")
+COLUMNS = (
+    "change",
+    "kind",
+    "label",
+    "was",
+    "axiom",
+    "citing",
+    "cited",
+    "differ",
+    "old",
+    "new",
+    "how",
+)
 
 
 def is_changed(part: Part, other: Part) -> bool:
@@ -327,11 +340,12 @@ class Restated(World):
             self.assertEqual(told, both, changes)
             self.assertNotEqual(row["old"], row["new"])
             lines = self.query("compare", "old.mm", "new.mm").lines()
-            self.assertEqual(lines[2:], ["", f"{label}: {row['differ']}"] + lines[4:])
+            how = f"; {HOW[str(row['how'])]}" if row["how"] else ""
+            self.assertEqual(lines[2:], ["", f"{label}: {row['differ']}{how}"] + lines[4:])
             shown = [f"  was  {row['old']}", f"  is   {row['new']}"]
             self.assertEqual(lines[4:], shown)
             comment = self.query("review", "old.mm", "new.mm", "--format=markdown").out
-            self.assertIn(f"\n- `{label}`: {row['differ']}\n", comment)
+            self.assertIn(f"\n- `{label}`: {row['differ']}{how}\n", comment)
             self.assertIn(f"\n  - was `{row['old']}`\n  - is `{row['new']}`\n", comment)
             if label == "one":
                 (row,) = self.query("review", "old.mm", "new.mm", "--format=json").rows()
@@ -404,8 +418,8 @@ class Restated(World):
         self.write("old.mm", old)
         self.write("new.mm", new)
         both = ["the formula changed", "|- ( p -> p )", "|- ( q -> p )"]
-        changed = "\t".join(("changed", "theorem", "two", "", "", "", "", *both))
-        gained = "\t".join(("gained", "theorem", "citing", "", "ax-c", "two", "ax-c", "", "", ""))
+        changed = "\t".join(("changed", "theorem", "two", "", "", "", "", *both, "general"))
+        gained = "\t".join(("gained", "theorem", "citing", "", "ax-c", "two", "ax-c", *[""] * 4))
         words = ("compare", "old.mm", "new.mm", "--format=tsv")
         self.assertEqual(self.answers(*words)[1:], [changed, gained])
         self.assertEqual(self.answers(*words, "ax-c")[1:], [changed, gained])
@@ -413,7 +427,7 @@ class Restated(World):
         self.write("mmdepend.toml", 'watch = ["ax-c"]\n')
         done = self.query("gate", "old.mm", "new.mm", "--all")
         self.assertEqual(done.status, 1)
-        found = [line.split(": ")[1:3] for line in done.lines()[:-1]]
+        found = [line.split(": ")[1:3] for line in done.lines() if line.startswith("new.mm:")]
         self.assertEqual(found, [["two", "newly rests on ax-c"], ["citing", "newly rests on ax-c"]])
         rows = self.query("review", "old.mm", "new.mm", "--format=json").rows()
         told = [(row["theorem"], row["gained"], row["axioms"], row["differ"]) for row in rows]
