@@ -1,22 +1,27 @@
-"""`history`: how much rests on axioms in each revision of a repository, or since when a theorem
-does."""
+"""`history`: how much rests on axioms in each revision of a repository; or what became of one
+statement, and since when a theorem rests on axioms."""
 
 import argparse
 import os
 from collections.abc import Iterator, Sequence
+from typing import NamedTuple
 
 from query.answers.errors import NoAnswer, shown
 from query.answers.output import Value
 from query.arguments.context import Context
 from query.arguments.options import Parser, add_choice_of_citations, add_database, options_of
 from query.commands import Command
+from query.comparisons.changed_statements import BOTH, Change, change_of, lines_of, most_of
+from query.comparisons.pairing import difference_in_words
+from query.comparisons.renames import Renames
 from query.git.history import Range, Revision, nothing_in, range_of, revisions
 from query.git.objects import Objects
 from query.git.repository import Repository, repository_with
 from query.platform import progress, secret
 from query.program import mmdepend
 from query.program.source import is_of_git
-from query.reports.revisions import Figures, Question, figures_of
+from query.reports.revisions import Figures, Question, contents_of, figures_of
+from query.reports.trails import Trail
 
 PAGE = """
 Shows for each revision of the range that changed DATABASE, the path of a file in a git repository,
@@ -36,32 +41,66 @@ subject   the first line of its message
 With --faults, only the revisions at which a fault began or ended, or became another one than that
 before. Where a row has no fault, one has ended.
 
-With --of T, only the revisions at which the answer changed or a fault began or ended, and the first
-one:
+With --of T, what became of the statement T, an axiom or a theorem: only the revisions that changed
+it, and those at which a fault began or ended.
 
-rev, date, axiom, fault, author, subject   the same
-theorem                                    T
-rests                                      whether T rests on the axiom; none where there is no
-                                           theorem T
+rev, date, fault, author, subject   the same
+theorem  its label there
+change   there:   the first revision of the range has it already
+         new:     it came with this revision
+         changed: it says something else now
+         renamed: it has another label now
+         proof:   it says the same, and its proof is another one
+         gone:    it isn't there any more
+was      for `renamed` the label that it had before
+differ, old, new   for `changed` in what both statements differ, and both, as `compare` tells them
+
+With --of T and AXIOM.., the theorem's answers: only the revisions at which one changed, or a fault
+began or ended, or the statement or its label changed, and the first one:
+
+axiom    which AXIOM; none in a row about the statement
+rests    whether the theorem rests on the axiom; none where there is no theorem T
 So the last row of an axiom says since which revision it is as it is. Behind a fault the answer is
 told anew, whether or not it is that before it.
 
+T is followed where it was renamed, as `compare` finds it: the same statement is there under another
+label. T is the label that it has in the newest revision that has one.
+
 REV..REV are the revisions of the second REV that aren't in the first, as in git; REV alone is all
 of them. Of a merge the first parent is followed: a merge into the branch is one change, by whatever
-revisions it was made. The file is followed through renames, labels aren't. Equal files are judged
-once. What is known of a file is kept; each other one takes as long as a first question.
+revisions it was made. The file is followed where it was renamed. Equal files are judged once. What
+is known of a file is kept; each other one takes as long as a first question.
 
   $ mmquery history set.mm v1..main ax-ac2 ax-reg
   $ mmquery history set.mm v1..main --faults
+  $ mmquery history set.mm main --of zorn
   $ mmquery history set.mm v1..main ax-ac2 --of zorn
   $ mmquery history ~/set.mm/set.mm v1..main ax-ac2
 """
 
 COLUMNS = ("rev", "date", "theorems", "axiom", "rest", "fault", "author", "subject")
-COLUMNS_OF = ("rev", "date", "theorem", "axiom", "rests", "fault", "author", "subject")
+OF_AXIOMS = ("axiom", "rests")
+OF_STATEMENT = ("change", "was", *BOTH)
+COLUMNS_OF = ("rev", "date", "theorem", *OF_AXIOMS, "fault", "author", "subject", *OF_STATEMENT)
+
+CHANGED, RENAMED = "changed", "renamed"
+AN_AXIOM = ("it is a theorem now, and was an axiom", "it is an axiom now, and was a theorem")
 
 Row = tuple[Value, ...]
 Known = Sequence[tuple[Revision, Figures]]
+
+
+class Turn(NamedTuple):
+    """What a revision did to a statement: the columns about that."""
+
+    change: str | None = None
+    was: str | None = None
+    differ: str | None = None
+    old: str | None = None
+    new: str | None = None
+
+
+NO_TURN = Turn()
 
 
 def configure(parser: Parser) -> None:
@@ -69,7 +108,7 @@ def configure(parser: Parser) -> None:
     add_database(parser)
     parser.add_argument("range", metavar="REV..REV")
     parser.add_argument("axiom", metavar="AXIOM", nargs="*")
-    parser.value("--of", "T", "since when the theorem T rests on each AXIOM")
+    parser.value("--of", "T", "what became of the statement T, or since when it rests on AXIOMs")
     parser.flag("--faults", "only when faults began and ended")
     parser.exclude("--of", "--faults")
     add_choice_of_citations(parser)
@@ -77,15 +116,13 @@ def configure(parser: Parser) -> None:
 
 def run(context: Context, arguments: argparse.Namespace) -> int:
     """Answers."""
-    word, theorem = arguments.database, arguments.of
+    word = arguments.database
     axioms = list(dict.fromkeys(arguments.axiom))
     if word == "-" or is_of_git(word) or os.path.isdir(word):
         raise NoAnswer(f"{shown(word)}: history wants the path of a file that git keeps")
-    if theorem is not None and not axioms:
-        raise NoAnswer("history --of wants at least one AXIOM")
     repository = repository_with(word)
     path, within = repository.path_of(word), range_in(arguments, repository)
-    question = Question(options_of(arguments), context.uses_cache, tuple(axioms), theorem)
+    question = Question(options_of(arguments), context.uses_cache, tuple(axioms), arguments.of)
     mmdepend.ready()
     if context.uses_cache:
         secret.read_or_make()  # here, since a process of its own may be ended while it makes one
@@ -94,21 +131,32 @@ def run(context: Context, arguments: argparse.Namespace) -> int:
         found = revisions(objects, within, path)
         if not found:
             context.tell(nothing_in(objects, within, path))
-        known = list(zip(found, figures_of(objects, found, question), strict=True))
+        known = list(zip(found, figures_in(objects, found, question), strict=True))
     see_labels(known, question, f"{within.word} of {shown(word)}")
     if repository.is_shallow():
         context.tell("the clone is shallow, so there may be revisions before the first one")
-    if theorem is None:
-        shown_ones = known
-        if arguments.faults:
-            shown_ones = [pair for pair, is_turn in zip(known, fault_turns(known)) if is_turn]
-            if found and not shown_ones:
-                context.tell(f"no revision of {within.word} of {shown(word)} has a fault")
-        aside = [] if axioms else ["axiom", "rest"]
-        context.out.table(COLUMNS, counts(shown_ones, axioms), aside)
-    else:
-        context.out.table(COLUMNS_OF, turns(known, axioms, theorem))
+    if arguments.of is not None:
+        put_life(context, known, axioms)
+        return 0
+    shown_ones = known
+    if arguments.faults:
+        shown_ones = [pair for pair, is_turn in zip(known, fault_turns(known)) if is_turn]
+        if found and not shown_ones:
+            context.tell(f"no revision of {within.word} of {shown(word)} has a fault")
+    aside = [] if axioms else ["axiom", "rest"]
+    context.out.table(COLUMNS, counts(shown_ones, axioms), aside)
     return 0
+
+
+def figures_in(
+    objects: Objects, found: Sequence[Revision], question: Question
+) -> Sequence[Figures]:
+    """What each revision says, in their order."""
+    contents = contents_of(objects, found)
+    if question.label is None:
+        return [*figures_of(objects, contents, question)]
+    renames = Renames(question.options, question.uses_cache)
+    return Trail(objects, contents, question, renames.label_in).followed()
 
 
 def range_in(arguments: argparse.Namespace, repository: Repository) -> Range:
@@ -130,8 +178,13 @@ def see_labels(known: Known, question: Question, name: str) -> None:
     for axiom in question.axioms:
         if all(each.count(axiom) is None for each in sound):
             raise NoAnswer(f"no revision in {name} has an axiom '{shown(axiom)}'")
-    if not any(each.has_theorem for each in sound):
-        raise NoAnswer(f"no revision in {name} has a theorem '{shown(str(question.theorem))}'")
+    label = question.label
+    if label is None:
+        return
+    if question.axioms and not any(each.has_theorem for each in sound):
+        raise NoAnswer(f"no revision in {name} has a theorem '{shown(label)}'")
+    if all(each.line is None for each in sound):
+        raise NoAnswer(f"no revision in {name} has a statement '{shown(label)}'")
 
 
 def fault_turns(known: Known) -> Iterator[bool]:
@@ -157,19 +210,78 @@ def counts(known: Known, axioms: Sequence[str]) -> Iterator[Row]:
             yield revision.commit, revision.date, each.theorems, axiom, rest, *said
 
 
-def turns(known: Known, axioms: Sequence[str], theorem: str) -> Iterator[Row]:
+def put_life(context: Context, known: Known, axioms: Sequence[str]) -> None:
+    """Answers what became of a statement, or since when it rests on axioms."""
+    most = most_of(context.out.format)
+    rows = [*(answers(known, axioms, most) if axioms else life(known, most))]
+    aside = BOTH if axioms else (*OF_AXIOMS, *BOTH)
+    context.out.table(COLUMNS_OF, rows, aside)
+    if context.out.format == "text":
+        changed = [row for row in rows if row[COLUMNS_OF.index("change")] == "changed"]
+        for line in lines_of(Change(f"{row[2]}, {row[1]}", *map(str, row[-3:])) for row in changed):
+            context.out.line(line)
+
+
+def turn(pair: tuple[Revision, Figures], axiom: Value, rests: Value, change: Turn) -> Row:
+    """A row about one assertion."""
+    revision, each = pair
+    said = (each.fault, revision.author, revision.subject)
+    return (revision.commit, revision.date, each.label, axiom, rests, *said, *change)
+
+
+def life(known: Known, most: int) -> Iterator[Row]:
+    """The revisions that changed a statement, or at which a fault began or ended."""
+    for pair, change, is_turn in zip(known, turns(known, most), fault_turns(known)):
+        if is_turn or change.change is not None:
+            yield turn(pair, None, None, change)
+
+
+def answers(known: Known, axioms: Sequence[str], most: int) -> Iterator[Row]:
     """For each revision the axioms of which it is another answer than before whether the theorem
-    rests on them, or all where a fault began or ended."""
+    rests on them, or all where a fault began or ended; and before these whether the statement or
+    its label changed."""
     last: dict[str, bool | None] = {}
-    for (revision, each), is_turn in zip(known, fault_turns(known)):
+    for pair, change, is_turn in zip(known, turns(known, most), fault_turns(known)):
+        each = pair[1]
+        if change.change in (CHANGED, RENAMED):
+            yield turn(pair, None, None, change)
         for axiom in axioms:
             rests = each.rests(axiom)
             is_same = each.fault is not None or (axiom in last and last[axiom] == rests)
             if each.fault is None:
                 last[axiom] = rests
             if is_turn or not is_same:
-                said = (each.fault, revision.author, revision.subject)
-                yield revision.commit, revision.date, theorem, axiom, rests, *said
+                yield turn(pair, axiom, rests, NO_TURN)
+
+
+def turns(known: Known, most: int) -> Iterator[Turn]:
+    """For each revision what it did to the statement. It is compared with the last one before that
+    is sound."""
+    last: Figures | None = None
+    for _, each in known:
+        if each.fault is not None:
+            yield NO_TURN
+            continue
+        yield turn_of(last, each, most)
+        last = each
+
+
+def turn_of(before: Figures | None, now: Figures, most: int) -> Turn:
+    """What a revision did to the statement. There is none before the first one."""
+    old, new = None if before is None else before.assertion, now.assertion
+    if new is None:
+        return NO_TURN if old is None else Turn("gone")
+    if before is None:
+        return Turn("there")
+    if old is None:
+        return Turn("new")
+    words = AN_AXIOM[new.kind == "a"] if old.kind != new.kind else difference_in_words(old, new)
+    if words:
+        was = None if old.label == new.label else old.label
+        return Turn(CHANGED, was, *change_of(old, new, words, most)[1:4])
+    if old.label != new.label:
+        return Turn(RENAMED, old.label)
+    return NO_TURN if before.proof == now.proof else Turn("proof")
 
 
 COMMANDS = [Command("history", PAGE, configure, run)]

@@ -105,6 +105,13 @@ def difference(old: Statement, new: Statement) -> str:
     return "" if old.order == new.order else ANOTHER_ORDER
 
 
+def difference_in_words(old: Assertion, new: Assertion) -> str:
+    """The same of two assertions, as `compare` tells it of one label."""
+    words = difference(statement_of(old), statement_of(new))
+    has_other_names = words not in ("", ANOTHER_ORDER) and are_alike(old, new)
+    return OTHER_NAMES if has_other_names else words
+
+
 @dataclass
 class Pairing:
     """What became of the assertions of one kind, axioms or theorems. Labels are in file order."""

@@ -1,4 +1,5 @@
-"""How many theorems of each revision of a file rest on axioms, or whether one theorem does.
+"""How many theorems of each revision of a file rest on axioms, or what one assertion says there and
+on which axioms it rests.
 
 Several revisions are judged at once. What is found is kept in a small result for each of them: the
 whole one of the program would fill the cache after some twenty revisions of set.mm.
@@ -6,12 +7,14 @@ whole one of the program would fill the cache after some twenty revisions of set
 
 from __future__ import annotations
 
+import hashlib
 import json
+import re
 from array import array
 from collections import deque
 from collections.abc import Iterator, Sequence
-from dataclasses import asdict, dataclass
-from functools import partial
+from dataclasses import asdict, dataclass, replace
+from functools import cached_property, partial
 
 from query.answers.errors import NoAnswer, shown
 from query.citations.marks import columns_of
@@ -27,34 +30,39 @@ from query.reports.choice import Options
 from query.reports.content import ReportContent
 from query.reports.database import Database, result_key, unpacked_numbers
 from query.reports.of_program import MARKS, marks_alone
-from query.texts.assertions import Damaged
+from query.texts.assertions import LABEL as LABEL_PATTERN, Assertion, Damaged
+from query.texts.uncommented import without_comments
 
+LABEL = re.compile(LABEL_PATTERN)
 AT_ONCE = 4
 """So many revisions are judged at once, where there are as many processors."""
-FORM = 2
+FORM = 3
 """Counts the forms in which figures are kept. A change of what they hold has to change it."""
 
 
 @dataclass(frozen=True)
 class Question:
-    """What is asked of each revision: `axioms` are labels, and `theorem` the one of which it is
-    asked whether it rests on them, None where theorems are counted."""
+    """What is asked of each revision: `axioms` are labels, and `label` that of the assertion of
+    which it is asked what it says and whether it rests on them, None where theorems are counted."""
 
     options: Options
     uses_cache: bool
     axioms: tuple[str, ...]
-    theorem: str | None
+    label: str | None
 
 
 @dataclass(frozen=True)
 class Figures:
     """What a revision says. `rest` has for each label that is an axiom how many theorems rest on
-    it, or with a theorem 1 where that one does and otherwise 0. `has_theorem` is whether there is
-    that one. With a `fault` there is nothing else to say."""
+    it, or with a label 1 where the theorem of this label does and otherwise 0. `line` is that of
+    the assertion of this `label` in the section `statements`, None where there is none, and `proof`
+    a sum of its proof. With a `fault` there is nothing else to say."""
 
     theorems: int | None = None
     rest: dict[str, int] | None = None
-    has_theorem: bool = True
+    label: str | None = None
+    line: str | None = None
+    proof: str | None = None
     fault: str | None = None
 
     def count(self, axiom: str) -> int | None:
@@ -63,7 +71,33 @@ class Figures:
 
     def rests(self, axiom: str) -> bool | None:
         """Whether the theorem rests on an axiom; None where it isn't there."""
-        return bool(self.count(axiom)) if self.fault is None and self.has_theorem else None
+        return bool(self.count(axiom)) if self.has_theorem else None
+
+    def says_other(self, before: Figures) -> bool:
+        """Whether a sound revision has no assertion of the label, or another one than a revision
+        that has one."""
+        if self.fault is not None:
+            return False
+        one, other = self.assertion, before.assertion
+        return one is None or other is None or (one.letter, one.said) != (other.letter, other.said)
+
+    def without_assertion(self) -> Figures:
+        """The same of a revision that has no assertion of the label."""
+        return replace(self, line=None, proof=None)
+
+    @property
+    def has_theorem(self) -> bool:
+        """Whether the assertion is there and is a theorem."""
+        said = self.assertion
+        return said is not None and said.letter == "p"
+
+    @cached_property
+    def assertion(self) -> Assertion | None:
+        """The assertion of the label; None where it isn't there."""
+        if self.line is None:
+            return None
+        label, letter, place, end, said = self.line.split(":", 4)
+        return Assertion(label, letter, int(place), int(end), said, 0)
 
 
 @dataclass(frozen=True)
@@ -75,15 +109,20 @@ class Content:
     name: str
 
 
-def figures_of(
-    objects: Objects, found: Sequence[Revision], question: Question
-) -> Iterator[Figures]:
-    """What each revision says, in their order. Equal files are judged once."""
+def contents_of(objects: Objects, found: Sequence[Revision]) -> list[Content | Figures]:
+    """What each revision has as the file; or that it isn't judged."""
     contents: list[Content | Figures] = []
     for revision in found:
         if len(contents) % 100 == 0:
             progress.now(f"looking at revision {len(contents) + 1} of {len(found)}")
         contents.append(content_of(objects, revision))
+    return contents
+
+
+def figures_of(
+    objects: Objects, contents: Sequence[Content | Figures], question: Question
+) -> Iterator[Figures]:
+    """What each of several contents says, in their order. Equal files are judged once."""
     first: dict[str, Content] = {}
     for each in contents:
         if isinstance(each, Content):
@@ -152,27 +191,29 @@ def in_json(told: Source | Figures, question: Question) -> bytes:
 
 def figures(source: Source, question: Question) -> Figures:
     """What a text says. NoAnswer where the program fails."""
-    parts = kept(Database(source, question.options, question.uses_cache), question.theorem)
+    label = question.label
+    parts = kept(Database(source, question.options, question.uses_cache), label)
     if parts["fault"]:
-        return Figures(fault=parts["fault"].decode())
+        return Figures(label=label, fault=parts["fault"].decode())
     columns = parts["axioms"].decode().split("\n") if parts["axioms"] else []
     numbers = dict(zip(columns, unpacked_numbers(parts["numbers"])))
     rest = {axiom: numbers[axiom] for axiom in question.axioms if axiom in numbers}
-    return Figures(int(parts["theorems"]), rest, parts["has theorem"] == b"1")
+    line, proof = (parts[name].decode() or None for name in ("line", "proof"))
+    return Figures(int(parts["theorems"]), rest, label, line, proof)
 
 
-def kept(database: Database, theorem: str | None) -> dict[str, bytes]:
+def kept(database: Database, label: str | None) -> dict[str, bytes]:
     """The figures of a database that are kept, or are kept from now on."""
-    key = result_key("figures", FORM, database.key, theorem)
+    key = result_key("figures", FORM, database.key, label)
     parts = cache.load(key) if database.uses_cache else None
     if parts is None:
-        parts = parts_of(database, theorem)
+        parts = parts_of(database, label)
         if database.uses_cache:
             cache.store(key, parts)
     return parts
 
 
-def parts_of(database: Database, theorem: str | None) -> dict[str, bytes]:
+def parts_of(database: Database, label: str | None) -> dict[str, bytes]:
     """The figures of a database, or why it is refused, in the form in which they are kept."""
     try:
         found = database.kept
@@ -184,25 +225,48 @@ def parts_of(database: Database, theorem: str | None) -> dict[str, bytes]:
     except Refused as refused:
         where = f"refused {refused.line}:{refused.column} {refused.code}"
         return {"fault": where.encode()}
-    return in_parts(found, theorem)
+    parts = {"fault": b"", "theorems": b"%d" % len(found.theorems), "line": b"", "proof": b""}
+    line = b"" if label is None else line_of(found.statements, label)
+    if line:
+        parts |= {"line": line, "proof": sum_of_proof(database.data(), line)}
+    numbers = numbers_of(found, label)
+    axioms = "\n".join(found.columns).encode()
+    return parts | {"axioms": axioms, "numbers": array("I", numbers).tobytes()}
 
 
-def in_parts(found: ReportContent, theorem: str | None) -> dict[str, bytes]:
-    """The figures for each axiom, in the form in which they are kept."""
+def line_of(statements: bytes, label: str) -> bytes:
+    """The line of an assertion in the section `statements`; b"" where there is none."""
+    if not LABEL.fullmatch(label):
+        return b""
+    name = label.encode() + b":"
+    place = 0 if statements.startswith(name) else statements.find(b"\n" + name) + 1
+    if not statements.startswith(name, place):
+        return b""
+    return statements[place : statements.index(b"\n", place)]
+
+
+def sum_of_proof(data: bytes, line: bytes) -> bytes:
+    """A sum of the proof of the assertion of a line, the same for the same words and letters,
+    wherever lines end; b"" where it has none."""
+    _, letter, start, end, _ = line.split(b":", 4)
+    if letter == b"a":
+        return b""
+    statement = without_comments(data[int(start) : int(end)])
+    labels, bracket, letters = statement.partition(b"$=")[2].rpartition(b")")
+    between = b"" if bracket else b" "
+    words = b" ".join(labels.split()) + bracket + between.join(letters.split())
+    return hashlib.blake2b(words, digest_size=16).hexdigest().encode()
+
+
+def numbers_of(found: ReportContent, label: str | None) -> list[int]:
+    """The figures for each axiom: how many theorems rest on it, or whether the one of a label
+    does."""
     assert found.marks is not None
-    has_theorem = theorem is None or theorem in found.theorems
-    if theorem is None:
-        numbers = found.marks.sizes()
-    else:
-        numbers = [0] * len(found.columns)
-        if has_theorem:
-            bits = found.marks.row(found.theorems.index(theorem))
-            for column in columns_of(bits, found.marks.columns):
-                numbers[column] = 1
-    return {
-        "fault": b"",
-        "theorems": b"%d" % len(found.theorems),
-        "axioms": "\n".join(found.columns).encode(),
-        "numbers": array("I", numbers).tobytes(),
-        "has theorem": b"%d" % has_theorem,
-    }
+    if label is None:
+        return found.marks.sizes()
+    numbers = [0] * len(found.columns)
+    if label in found.theorems:
+        bits = found.marks.row(found.theorems.index(label))
+        for column in columns_of(bits, found.marks.columns):
+            numbers[column] = 1
+    return numbers

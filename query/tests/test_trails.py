@@ -1,0 +1,233 @@
+"""`history --of`: what became of one statement, also where its label changed. The answers are
+compared with the log of whoever made the revisions."""
+
+import random
+from collections.abc import Sequence
+from dataclasses import dataclass, field, replace
+
+from query.tests.repositories import ADDED, BASE, FREED, Repositories, changed
+
+HEAD = """$c wff |- ( -> ) $.
+$v p q $.
+wp $f wff p $.
+wq $f wff q $.
+wi $a wff ( p -> q ) $.
+any $a |- p $.
+other $a |- p $.
+"""
+Row = tuple[object, ...]
+
+
+@dataclass(frozen=True)
+class Theorem:
+    """A theorem whose formula has so many arrows, all from the same. No other one ever had as many.
+    `axiom` is what its proof cites."""
+
+    label: str
+    arrows: int
+    axiom: str
+
+    def text(self) -> str:
+        """Its statement and its proof."""
+        formula = "( p -> " * self.arrows + "p" + " )" * self.arrows
+        proof = "wp " * (self.arrows + 1) + "wi " * self.arrows
+        return f"{self.label} $p |- {formula} $= {proof}{self.axiom} $.\n"
+
+
+@dataclass
+class Log:
+    """Revisions that are made by chance, and what was done in each. `then` has for each revision
+    the theorems by numbers that stay theirs."""
+
+    chance: random.Random
+    then: list[dict[int, Theorem]] = field(default_factory=list)
+    count: int = 0
+    born: int = 2
+    """The number of the theorem that came last."""
+
+    def fresh(self, label: str) -> Theorem:
+        """A theorem that says what none said before."""
+        self.count += 1
+        return Theorem(label, self.count, self.chance.choice(("any", "other")))
+
+    def begin(self) -> None:
+        """The first revision."""
+        self.then.append({number: self.fresh(f"t{number}") for number in range(3)})
+
+    def add(self) -> None:
+        """Another revision."""
+        now = dict(self.then[-1])
+        number = self.chance.choice([*now])
+        one = now[number]
+        labels = {each.label for each in now.values()}
+        free = [label for label in ("t0", "t1", "t2", "u0", "u1") if label not in labels]
+        kind = self.chance.choice(("rename", "rename", "say", "prove", "drop", "add"))
+        if kind == "rename":
+            now[number] = replace(one, label=self.chance.choice(free))
+        elif kind == "say":
+            now[number] = self.fresh(one.label)
+        elif kind == "prove":
+            now[number] = replace(one, axiom="any" if one.axiom == "other" else "other")
+        elif kind == "drop" and len(now) > 2:
+            del now[number]
+        elif len(now) < 5:
+            self.born += 1
+            now[self.born] = self.fresh(self.chance.choice(free))
+        self.then.append(now)
+
+    def text(self) -> str:
+        """The database of the last revision."""
+        return HEAD + "".join(each.text() for each in self.then[-1].values())
+
+    def life(self, label: str) -> list[Row]:
+        """What became of the theorem that has a label in the newest revision in which one has it:
+        the number of the revision, the label, what changed, and the label before."""
+        newest = max(
+            (place, number)
+            for place, each in enumerate(self.then)
+            for number, one in each.items()
+            if one.label == label
+        )
+        rows: list[Row] = []
+        before: Theorem | None = None
+        for place, each in enumerate(self.then):
+            now = each.get(newest[1])
+            change = None if before == now else change_of(before, now, place)
+            if change is not None:
+                rows.append((place, None if now is None else now.label, *change))
+            before = now
+        return rows
+
+
+def change_of(before: Theorem | None, now: Theorem | None, place: int) -> Row:
+    """What one revision did to a theorem."""
+    if now is None:
+        return "gone", None
+    if before is None:
+        return ("new" if place else "there"), None
+    if before.arrows != now.arrows:
+        return "changed", None
+    return ("renamed", before.label) if before.label != now.label else ("proof", None)
+
+
+class Life(Repositories):
+    """What became of a statement."""
+
+    def rows(self, *words: str) -> list[dict[str, object]]:
+        """The rows of an answer."""
+        done = self.query("history", "--format=json", *words)
+        self.assertEqual((done.status, done.err), (0, ""), done)
+        return done.rows()
+
+    def told(self, *words: str) -> list[Row]:
+        """The rows of an answer, without what says which revision it is."""
+        return [
+            (row["theorem"], row["axiom"], row["rests"], row["change"], row["was"])
+            for row in self.rows(*words)
+        ]
+
+    def test_by_chance(self) -> None:
+        """The answer is what was done, for each label that there ever was."""
+        kinds: set[object] = set()
+        for seed in range(8):
+            log = Log(random.Random(seed))
+            log.begin()
+            commits = [self.commit(log.text())]
+            for _ in range(8):
+                log.add()
+                commits.append(self.commit(log.text()))
+            within = f"{commits[0]}~1..{commits[-1]}"
+            commits = list(dict.fromkeys(commits))
+            labels = {each.label for then in log.then for each in then.values()}
+            for label in sorted(labels):
+                wanted = log.life(label)
+                found = [
+                    (commits.index(str(row["rev"])), row["theorem"], row["change"], row["was"])
+                    for row in self.rows("db.mm", within, "--of", label)
+                ]
+                self.assertEqual(without_gone(found), without_gone(wanted), (seed, label))
+                kinds.update(row[2] for row in found)
+        self.assertEqual(kinds, {"there", "new", "changed", "renamed", "proof", "gone"})
+
+    def test_what_is_shown(self) -> None:
+        first = self.git("rev-parse", "HEAD")
+        says = ("zorn $p |- ( q -> ( p", "zorn $p |- ( p -> ( p")
+        other = changed(BASE, says, ("wi wi wq wp axac3 a1i", "wi wi wp wp axac3 a1i"))
+        second = self.commit(other)
+        rows = self.rows("db.mm", "HEAD", "--of", "zorn")
+        self.assertEqual([row["rev"] for row in rows], [first, second])
+        self.assertEqual([row["change"] for row in rows], ["there", "changed"])
+        self.assertEqual(rows[1]["differ"], "the formula changed")
+        self.assertEqual(rows[1]["old"], "|- ( q -> ( p -> ( p -> p ) ) )")
+        self.assertEqual(rows[1]["new"], "|- ( p -> ( p -> ( p -> p ) ) )")
+        lines = self.answers("history", "db.mm", "HEAD", "--of", "zorn")
+        self.assertRegex(lines[0], r"\Arev +date +theorem +fault +author +subject +change +was\Z")
+        day = str(rows[1]["date"])
+        self.assertEqual(lines[4], f"zorn, {day}: the formula changed")
+        self.assertEqual(lines[5], "  was  |- ( q -> ( p -> ( p -> p ) ) )")
+
+    def test_faults_between(self) -> None:
+        """A faulty revision has a row, and the statement is compared with the last sound one."""
+        self.commit(changed(BASE, ("$= df-4 $.", "$= none $.")))
+        self.commit(changed(BASE, ("zorn $p", "zorn3 $p")))
+        there, renamed = ("zorn", "there", None), ("zorn3", "renamed", "zorn")
+        self.assertEqual(self.lives("zorn3"), [there, ("zorn3", None, None), renamed])
+        self.assertEqual(self.lives("zorn"), [there, ("zorn", None, None), renamed])
+
+    def test_axioms(self) -> None:
+        """With an AXIOM the theorem is followed too; a row without one is about the statement."""
+        self.commit(changed(BASE, ("zorn $p", "zorn3 $p")))
+        self.commit(changed(BASE, ("zorn $p", "zorn3 $p"), FREED))
+        wanted = [
+            ("zorn", "ax-ac2", True, None, None),
+            ("zorn3", None, None, "renamed", "zorn"),
+            ("zorn3", "ax-ac2", False, None, None),
+        ]
+        for label in ("zorn", "zorn3"):
+            self.assertEqual(self.told("db.mm", "HEAD", "ax-ac2", "--of", label), wanted)
+
+    def test_an_axiom(self) -> None:
+        self.commit(BASE.replace("ax-ac2", "ax-ac3"))
+        self.assertEqual(self.lives("ax-ac2"), self.AXIOM)
+        self.commit(changed(BASE.replace("ax-ac2", "ax-ac3"), self.AS_THEOREM))
+        (*_, last) = self.rows("db.mm", "HEAD", "--of", "ax-ac3")
+        told = (last["change"], last["differ"])
+        self.assertEqual(told, ("changed", "it is a theorem now, and was an axiom"))
+
+    AXIOM = [("ax-ac2", "there", None), ("ax-ac3", "renamed", "ax-ac2")]
+    AS_THEOREM = (
+        "ax-ac3 $a |- ( p -> ( p -> p ) ) $.",
+        "ax-ac3 $p |- ( p -> ( p -> p ) ) $= wp wp ax-1 $.",
+    )
+
+    def test_a_label_of_another(self) -> None:
+        """A label that was another statement's before is followed no further, as `compare` says."""
+        swapped = changed(BASE, ("zorn $p", "x $p"), ("free $p", "zorn $p"))
+        self.commit(swapped)
+        self.assertEqual(self.lives("zorn"), [("free", "there", None), ("zorn", "renamed", "free")])
+        self.assertEqual(self.lives("x"), [("zorn", "there", None), ("x", "renamed", "zorn")])
+        taken = changed(BASE, ("zorn $p", "x $p")) + ADDED.replace("new", "zorn")
+        self.git("reset", "--quiet", "--hard", "HEAD~1")
+        self.commit(taken)
+        self.assertEqual(self.lives("zorn"), [("zorn", "new", None)])
+
+    def lives(self, label: str) -> list[Row]:
+        """The label, what changed, and the label before, in each row about a statement."""
+        rows = self.told("db.mm", "HEAD", "--of", label)
+        return [(row[0], *row[3:]) for row in rows]
+
+    def test_lines_of_a_proof(self) -> None:
+        """Where lines end in a proof is no other proof."""
+        self.commit(BASE.replace("wp ax-ac2 $.", "wp\n  ax-ac2\n $."))
+        self.assertEqual(self.lives("axac3"), [("axac3", "there", None)])
+
+    def test_what_is_not_there(self) -> None:
+        why = "no revision in HEAD of db.mm has a statement 'x'"
+        self.refuses("history", "db.mm", "HEAD", "--of", "x", why=why)
+        self.refuses("history", "db.mm", "HEAD", "--of", "wp", why="has a statement 'wp'")
+        self.refuses("history", "db.mm", "HEAD", "--of", "a:b", why="has a statement 'a:b'")
+
+
+def without_gone(rows: Sequence[Row]) -> list[Row]:
+    """Rows in which the label isn't told of where the statement is gone."""
+    return [(row[0], None, *row[2:]) if row[2] == "gone" else row for row in rows]
