@@ -24,7 +24,8 @@ PAGE = """
 Tells whether every proof is valid (status 0), or the first fault (status 1) as compilers write it:
 file, line, column, code and statement; what the code means, and what to do. Of a wrong step of a
 proof it says what it cites, which hypothesis wants what and what stands there, or which variables
-aren't distinct; and it shows the steps before. Where a proof ends in another formula than that of
+aren't distinct; it shows what stands for each of its hypotheses, and the steps before, and names
+the other steps that are wrong in the same way. Where a proof ends in another formula than that of
 its theorem, both are shown. Where a proof has a word that it can't cite, the word is shown, and the
 line on which something of this name is declared. Of a number of a compressed proof that is too
 large it says which one is the largest there.
@@ -46,6 +47,10 @@ lacking    the variable that both have, or two that no active $d has
 steps      the last five steps before: number, label and formula, which is cut where it is long
 missing    all pairs of variables that aren't distinct at this step and those behind it, or the
            variable alone that both sides of a pair have; what to do names the first twenty
+takes      for each hypothesis of the step the number of the step that stands for it, the label of
+           the hypothesis, and the formula that stands there; of the first hundred
+others     for E35 the other steps of the proof with a hypothesis that isn't met: number, label, and
+           the label of that hypothesis; as far as it is known what the steps before them say
 
 All steps are counted, those too that build formulas, as metamath.exe's `show proof T /all` counts
 them. Each number of a compressed proof is a step; the label @N says that it repeats the step N. As
@@ -74,6 +79,8 @@ FIELDS += [
     "lacking",
     "steps",
     "missing",
+    "takes",
+    "others",
 ]
 COLUMNS = ["valid", "axioms", "theorems", *FIELDS]
 
@@ -181,10 +188,11 @@ def put_lines(context: Context, refusal: Refused, hint: "Hint | None", why: "Exp
     lines = [("what to do", advice_on(refusal, hint, why)), *why.lines()]
     for name, text in lines if hint is None else [hint.line, *lines]:
         context.out.line(f"  {name:<16}  {text}")
-    name = "the last steps" if why.step is None else "the steps before"
-    for line in why.step_lines():
-        context.out.line(f"  {name:<16}  {line}")
-        name = ""
+    steps = "the last steps" if why.step is None else "the steps before"
+    for name, block in (("it takes", why.taken_lines()), (steps, why.step_lines())):
+        for line in block:
+            context.out.line(f"  {name:<16}  {line}")
+            name = ""
 
 
 COMMANDS = [Command("verify", PAGE, configure, run)]

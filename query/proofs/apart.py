@@ -3,16 +3,16 @@ and at those behind it."""
 
 from __future__ import annotations
 
-from collections.abc import Iterable, Iterator, Mapping, Sequence
+from collections.abc import Iterable, Iterator, Mapping
 from contextlib import suppress
 from functools import cached_property
 
 from query.proofs.explanation import Clash, Missing, Variables
+from query.proofs.mismatches import mismatch_of
 from query.proofs.replay import (
     COST_OF_STEP,
     MARK,
     Budget,
-    Entry,
     Formula,
     Replay,
     Rest,
@@ -99,20 +99,10 @@ def see_step(
         return
     entries = replay.entries(rule)
     values = rule.values(entries)
-    if not fits(replay, rule, entries, values):
+    if mismatch_of(replay, rule, entries, values) is not None:
         raise LookupError
     for one, other in rule.frame.pairs():
         for variables in apart.lacking(values[one], values[other]):
             found.setdefault(frozenset(variables), variables)
             if len(found) == MOST_MISSING:
                 raise TooLong
-
-
-def fits(
-    replay: Replay, rule: Rule, entries: Sequence[Entry], values: Mapping[str, Formula]
-) -> bool:
-    """Whether the entries fit the hypotheses of a rule."""
-    return all(
-        entry.formula == replay.replaced(hypothesis.formula.split(" "), values)
-        for hypothesis, entry in zip(rule.given, entries)
-    )

@@ -18,12 +18,11 @@ from query.program import mmdepend
 from query.program.refusals import Refused
 from query.program.source import Source
 from query.proofs.apart import Apart, clashes, missing_from
-from query.proofs.explanation import Explanation, Mismatch, Number
+from query.proofs.explanation import Explanation, Number
+from query.proofs.mismatches import mismatch_of, wrong_behind
 from query.proofs.replay import (
     MARK,
     Budget,
-    Entry,
-    Formula,
     Proof,
     Replay,
     Rest,
@@ -83,9 +82,10 @@ def known_of(refusals: Sequence[Refused]) -> Known | None:
 
 
 def rest_of(bare_text: bytes, refusal: Refused, proof: Proof | None) -> Rest:
-    """The rest of a proof in which variables aren't distinct, since others may not be either. It is
-    the faulty step alone where the proof isn't whole; empty for other faults."""
-    if refusal.code != "E36" or proof is None or proof.faulty is None:
+    """The rest of a proof in which variables aren't distinct, or a hypothesis isn't met, since
+    others may not be either. It is the faulty step alone where the proof isn't whole; empty for
+    other faults."""
+    if refusal.code not in ("E35", "E36") or proof is None or proof.faulty is None:
         return Rest([], [], False)
     with suppress(ValueError):
         return rest_behind(bare_text, refusal.at(), proof)
@@ -144,11 +144,13 @@ class Known:
         except TooLong:
             return replace(begun, is_too_long=True)
         found = replace(found, last=tuple(replay.last))
+        rest = self.rests[number]
+        rest = rest._replace(labels=proof.labels_of(rule, rest.labels))
         if found.clash is not None:
-            rest = self.rests[number]
-            rest = rest._replace(labels=proof.labels_of(rule, rest.labels))
             missing = missing_from(replay, rest, apart, found.clash.variables)
             found = replace(found, clash=replace(found.clash, missing=missing))
+        if found.mismatch is not None:
+            found = replace(found, others=wrong_behind(replay, rest))
         return found if code == self.codes[number] else None
 
     def rule(self, label: str) -> Rule | None:
@@ -192,6 +194,7 @@ def at_step(
     if len(replay.stack) < len(rule.given):
         return "E34", replace(of_stack(begun, replay), taken=len(rule.given))
     entries = replay.entries(rule)
+    begun = replace(begun, takes=tuple(zip(rule.given, entries)))
     values = rule.values(entries)
     mismatch = mismatch_of(replay, rule, entries, values)
     if mismatch is not None:
@@ -205,19 +208,3 @@ def at_step(
 def of_size(begun: Explanation, size: int) -> tuple[str, Explanation]:
     """The last fault of a step whose formula has so many symbols."""
     return "E39" if size > MOST_SYMBOLS else "", replace(begun, size=size)
-
-
-def mismatch_of(
-    replay: Replay, rule: Rule, entries: Sequence[Entry], values: Mapping[str, Formula]
-) -> Mismatch | None:
-    """The first hypothesis that its entry doesn't fit."""
-    for hypothesis, entry in zip(rule.given, entries):
-        symbols = hypothesis.formula.split(" ")
-        if hypothesis.kind == "f":
-            if symbols[0] != entry.formula[0]:
-                return Mismatch(hypothesis, symbols, entry)
-            continue
-        wanted = replay.replaced(symbols, values)
-        if wanted != entry.formula:
-            return Mismatch(hypothesis, wanted, entry)
-    return None

@@ -7,9 +7,10 @@ gets it whole, or not at all where it is very long.
 
 from __future__ import annotations
 
-from collections.abc import Iterator, Sequence
+from collections.abc import Iterable, Iterator, Sequence
 from dataclasses import dataclass
 from itertools import islice
+from typing import NamedTuple
 
 from query.answers.excerpts import cut, cut_both
 from query.answers.output import Value
@@ -23,7 +24,9 @@ SHOWN_FORMULA = 300
 SHOWN_NAME = 100
 """How many characters of a label or of a variable are shown."""
 SHOWN_PAIRS = 20
-"""How many pairs of variables are shown that lack a `$d`."""
+"""How many pairs of variables are shown that lack a `$d`, and how many other faulty steps."""
+MOST_TAKEN = 100
+"""Of so many hypotheses of a step it is told what stands there."""
 WIDEST = 20
 """The formulas of steps are aligned behind labels of so many characters at the most."""
 SYMBOLS_BEFORE = 10
@@ -76,6 +79,33 @@ class Missing:
         if self.unseen is not None:
             said.append(f"what the steps from {self.unseen} on lack isn't known")
         return "; ".join(said)
+
+
+class Wrong(NamedTuple):
+    """A step whose hypothesis what stands there doesn't fit: its number, what it cites, and the
+    labels of that hypothesis."""
+
+    step: int
+    cited: str
+    hypothesis: str
+
+
+@dataclass(frozen=True)
+class Others:
+    """The other steps of a proof that are faulty in this way, as far as it is known what the steps
+    before them say. `unseen` is the step from which on it isn't; None where it is of all steps."""
+
+    found: tuple[Wrong, ...] = ()
+    unseen: int | None = None
+
+    def lines(self) -> Iterator[Line]:
+        """In words; nothing where there are none."""
+        said = [
+            f"{each.step}, {name(each.cited)} at {name(each.hypothesis)}" for each in self.found
+        ]
+        if said:
+            more = f"; the steps from {self.unseen} on aren't judged" if self.unseen else ""
+            yield "also wrong are", several(said, "; ") + more
 
 
 def several(words: Sequence[str], between: str, behind: str = "") -> str:
@@ -149,7 +179,8 @@ class Explanation:
     """Why a proof is refused. `step` is the number of the faulty step and `cited` its label; None
     where the end is faulty. `last` are the steps before that. `entries` is how many entries the
     stack has, `pushed` which steps pushed the last ones, `taken` how many the step takes. `proved`
-    and `says` are what the proof proves and what its theorem says. `size` is how many symbols the
+    and `says` are what the proof proves and what its theorem says. `takes` has what stands for the
+    hypotheses of the step, and `others` the other faulty steps. `size` is how many symbols the
     formula of the step has. `number` is that of a step that is too large. Where `is_too_long`, the
     steps weren't carried out."""
 
@@ -165,6 +196,8 @@ class Explanation:
     says: Formula | None = None
     size: int | None = None
     number: Number | None = None
+    takes: tuple[tuple[Hypothesis, Entry], ...] = ()
+    others: Others = Others()
     is_too_long: bool = False
 
     def lines(self, most: int = SHOWN_FORMULA) -> Iterator[Line]:
@@ -176,6 +209,7 @@ class Explanation:
         for fault in (self.mismatch, self.clash):
             if fault is not None:
                 yield from fault.lines(most)
+        yield from self.others.lines()
         if self.proved is not None and self.says is not None:
             one, other = both_in_words(self.proved, self.says, most)
             yield "the proof proves", one
@@ -203,13 +237,13 @@ class Explanation:
 
     def step_lines(self) -> list[str]:
         """The steps before, aligned."""
-        wide = max((len(str(each.number)) for each in self.last), default=0)
-        labels = [name(each.label) for each in self.last]
-        width = min(max(map(len, labels), default=0), WIDEST)
-        return [
-            f"{each.number:>{wide}}  {label:<{width}}  {in_words(each.formula, SHOWN_FORMULA)}"
-            for label, each in zip(labels, self.last)
-        ]
+        return aligned((each.number, each.label, each.formula) for each in self.last)
+
+    def taken_lines(self) -> list[str]:
+        """For each hypothesis of the step the number of the step that stands for it, its label, and
+        what stands there; aligned."""
+        taken = self.takes[:MOST_TAKEN]
+        return aligned((entry.step, given.label, entry.formula) for given, entry in taken)
 
     def formulas(self) -> tuple[str | None, str | None]:
         """What stands there, and what is wanted, for a program."""
@@ -219,8 +253,8 @@ class Explanation:
 
     def fields(self) -> list[Value]:
         """The step, what it cites, the label of the hypothesis, the two variables, what stands for
-        each, the variables that are lacking, the steps before, and all that is lacking, for a
-        program."""
+        each, the variables that are lacking, the steps before, all that is lacking, what stands for
+        each hypothesis, and the other faulty steps, for a program."""
         label = None if self.mismatch is None else self.mismatch.hypothesis.label
         steps = [
             f"{each.number} {each.label} {in_words(each.formula, SHOWN_FORMULA)}"
@@ -232,7 +266,24 @@ class Explanation:
             clash = [list(self.clash.pair), *values, list(self.clash.variables)]
         missing = () if self.clash is None else self.clash.missing.found
         lacking = [" ".join(each) for each in missing]
-        return [self.step, self.cited, label, *clash, steps or None, lacking or None]
+        takes = [
+            f"{entry.step} {given.label} {in_words(entry.formula, SHOWN_FORMULA)}"
+            for given, entry in self.takes[:MOST_TAKEN]
+        ]
+        others = [f"{each.step} {each.cited} {each.hypothesis}" for each in self.others.found]
+        lists = (steps, lacking, takes, others)
+        return [self.step, self.cited, label, *clash, *(each or None for each in lists)]
+
+
+def aligned(rows: Iterable[tuple[int, str, Formula]]) -> list[str]:
+    """Lines with a number, a label and a formula each."""
+    told = [(str(number), name(label), formula) for number, label, formula in rows]
+    wide = max((len(number) for number, _, _ in told), default=0)
+    width = min(max((len(label) for _, label, _ in told), default=0), WIDEST)
+    return [
+        f"{number:>{wide}}  {label:<{width}}  {in_words(formula, SHOWN_FORMULA)}"
+        for number, label, formula in told
+    ]
 
 
 def text_of(formula: Formula | None) -> str | None:

@@ -123,6 +123,18 @@ def faults_of(text: str) -> dict[str, Fault]:
     return found
 
 
+def wrong_steps(text: str) -> dict[str, list[str]]:
+    """For each theorem the steps with a hypothesis that isn't met; none where its proof can't be
+    read."""
+    known: dict[str, Frame] = {}
+    found: dict[str, list[str]] = {}
+    for frame in frames(text):
+        with suppress(LookupError):
+            found[frame.label] = Check(frame, known).wrong_steps() if frame.words else []
+        known[frame.label] = frame
+    return found
+
+
 def replaced(formula: str, values: dict[str, str]) -> str:
     """A formula under a substitution."""
     return " ".join(" ".join(values.get(symbol, symbol) for symbol in formula.split()).split())
@@ -188,6 +200,47 @@ class Check:
         proved, wanted = self.stack[0], self.frame.formula
         same = proved == wanted
         return None if same else Fault("E38", proved=proved, wanted=wanted, steps=self.told[-5:])
+
+    def wrong_steps(self) -> list[str]:
+        """Each step with a hypothesis that what stands there doesn't fit, with its label and that
+        of the first such hypothesis; up to the first step of which it isn't known what it says."""
+        made: list[str] = []
+        found: list[str] = []
+        for count, label in enumerate(self.steps(), 1):
+            if label.startswith("@"):
+                self.stack.append(made[int(label[1:]) - 1])
+            elif label in self.hypotheses:
+                self.stack.append(self.hypotheses[label])
+            else:
+                given = self.known[label].mandatory
+                if len(self.stack) < len(given):
+                    return found
+                entries = self.stack[len(self.stack) - len(given) :]
+                found += self.wrong_at(count, label, entries)
+                if any(not self.is_of_kind(*pair) for pair in zip(given, entries)):
+                    return found
+                del self.stack[len(self.stack) - len(given) :]
+                names = (name for _, _, name, _ in given)
+                values = {name: e.partition(" ")[2] for name, e in zip(names, entries) if name}
+                self.stack.append(replaced(self.known[label].formula, values))
+            made.append(self.stack[-1])
+        return found
+
+    def is_of_kind(self, given: tuple[str, str, str, str], entry: str) -> bool:
+        """Whether something of its typecode stands for the variable of a hypothesis, if it has
+        one."""
+        return not given[2] or entry.split(" ")[0] == given[3]
+
+    def wrong_at(self, count: int, label: str, entries: list[str]) -> list[str]:
+        """The step with its first hypothesis that its entry doesn't fit; none where there is
+        none."""
+        pairs = list(zip(self.known[label].mandatory, entries))
+        values = {name: entry.partition(" ")[2] for (_, _, name, _), entry in pairs if name}
+        for given, entry in pairs:
+            fits = given[2] or replaced(given[1], values) == entry
+            if not fits or not self.is_of_kind(given, entry):
+                return [f"{count} {label} {given[0]}"]
+        return []
 
     def applied(self, rule: Frame) -> Fault | None:
         """Applies an assertion. Returns the fault of that."""

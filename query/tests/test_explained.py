@@ -138,6 +138,10 @@ the step          9, ax-mp
 its hypothesis    maj, |- ( p -> q )
 it wants          |- ( p -> ( q -> p ) )
 step 8 has        |- ( q -> ( p -> q ) )
+it takes          1  wp   wff p
+                  4  wq   wff ( q -> p )
+                  5  min  |- p
+                  8  maj  |- ( q -> ( p -> q ) )
 the steps before  4  wi    wff ( q -> p )
                   5  e1    |- p
                   6  wq    wff q
@@ -152,6 +156,8 @@ the step          4, wi
 its hypothesis    wp, wff p
 it wants          wff p
 step 2 has        |- p
+it takes          2  wp  |- p
+                  3  wq  wff q
 the steps before  1  wp  wff p
                   2  e1  |- p
                   3  wq  wff q
@@ -165,6 +171,8 @@ its $d has        p and q
 in place of p     p
 in place of q     ( q -> r )
 no active $d has  p and q
+it takes          1  wp  wff p
+                  4  wq  wff ( q -> r )
 the steps before  1  wp  wff p
                   2  wq  wff q
                   3  wr  wff r
@@ -179,6 +187,8 @@ its $d has        p and q
 in place of p     p
 in place of q     ( p -> p )
 both have         p
+it takes          1  wp  wff p
+                  4  wq  wff ( p -> p )
 the steps before  1  wp  wff p
                   2  wp  wff p
                   3  wp  wff p
@@ -316,7 +326,9 @@ class Told(Explained):
         for theorem, wanted in EACH:
             lines = [re.split(r"  +", line, maxsplit=1) for line in wanted.strip().splitlines()]
             names = [" ".join(line) for line in lines if line[0] and not line[0].endswith(" steps")]
-            names = [name for name in names if not name.startswith("the steps before")]
+            names = [
+                each for each in names if not each.startswith(("the steps before", "it takes"))
+            ]
             self.assertEqual(self.clause(theorem), "".join(f"; {name}" for name in names), theorem)
 
     def doubled(self, times: int) -> str:
@@ -556,6 +568,8 @@ class Apart(Explained):
 
     several = 0
     """How many proofs lacked several pairs."""
+    others = 0
+    """How many proofs had several steps with a hypothesis that isn't met."""
 
     def check(self, row: Row, fault: replay.Fault, why: str) -> None:
         """What is said is what is so."""
@@ -591,14 +605,19 @@ class Apart(Explained):
         for name, text in databases():
             for seed in range(12 if len(text) < 10_000 else 2):
                 bad = damaged(random.Random(f"{name} {seed}"), text, 60)
-                faults = replay.faults_of(bad)
+                faults, wrong = replay.faults_of(bad), replay.wrong_steps(bad)
                 for row in self.rows(bad):
                     if row["code"] in CODES:
                         codes[str(row["code"])] += 1
                         label = str(row["statement"])
-                        self.check(row, faults[label], f"{name}, seed {seed}, {label}")
+                        why = f"{name}, seed {seed}, {label}"
+                        self.check(row, faults[label], why)
+                        others = wrong[label][1:] if row["code"] == "E35" else []
+                        self.assertEqual(row["others"], others or None, why)
+                        self.others += len(others) > 0
         self.assertGreater(min(codes[code] for code in CODES if code != "E39"), 10, codes)
         self.assertGreater(self.several, 4)
+        self.assertGreater(self.others, 4)
 
 
 def told_by_metamath(said: str) -> dict[str, str]:
@@ -668,7 +687,10 @@ class Metamath(Explained):
         return True
 
     def check_unified(self, row: Row, pairs: list[tuple[str, str, str]], told: str) -> None:
-        """The hypothesis is the first that doesn't fit, of all that it lists."""
+        """The hypothesis is the first that doesn't fit, of all that it lists. These are told."""
+        takes = [each.split(" ", 2) for each in words_of(row["takes"])]
+        wanted_takes = [(number, short(f"0 x {found}")[4:]) for _, number, found in pairs]
+        self.assertEqual([(each[0], each[2]) for each in takes], wanted_takes, told)
         values = {
             says.split(" ")[1]: found.partition(" ")[2]
             for says, _, found in pairs
