@@ -50,6 +50,8 @@ WORDS: dict[str, tuple[str, ...]] = {
     "unfinished": ("DB",),
     "discouraged": ("DB",),
     "mathboxes": ("DB",),
+    "comments": ("DB",),
+    "obsolete": ("DB",),
     "definitions": ("DB",),
     "equivalents": ("DB", "ax-1"),
     "search": ("DB", "( p ->"),
@@ -72,7 +74,7 @@ OF_GIT = {"history"}
 # Those that write to standard output only where there is something to say.
 MAY_BE_SILENT = {
     *("spare", "unfinished", "definitions", "export", "mathboxes", "gate", "same", "uncited"),
-    "unneeded",
+    *("unneeded", "comments", "obsolete"),
 }
 
 

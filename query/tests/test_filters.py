@@ -2,6 +2,7 @@
 
 import fnmatch
 import itertools
+import re
 
 from query.arguments.filters import Test
 from query.commands import command, names
@@ -32,15 +33,18 @@ LISTS: dict[str, list[str]] = {
     "needs": ["two"],
     "proofs": [],
     "search": ["( p ->"],
+    "comments": [],
+    "obsolete": [],
 }
 """Each command that lists labels, with words of a question."""
 COUNTING = {"sets", "contributors"}
 """Those whose filters choose what is counted."""
 COLUMNS = {"rests": "axiom", "cites": "cited", "top": "axiom", "order": "label"}
 COLUMNS |= {"discouraged": "label", "definitions": "definition", "way-out": "of"}
-COLUMNS |= {"needs": "form", "search": "label"}
+COLUMNS |= {"needs": "form", "search": "label", "comments": "statement", "obsolete": "label"}
 """The column to which the filters apply, where it isn't `theorem`."""
 DATABASES = {"definitions": "definitions.mm", "unneeded": "unneeded.mm", "move": "move.mm"}
+DATABASES |= dict.fromkeys(("comments", "obsolete"), "comments.mm")
 """The file of which a command has something to list, where it isn't `db.mm`."""
 
 EARLY = {"wi", "ax-1", "one", "two", "ax-2"}
@@ -107,6 +111,8 @@ class Filtered(World):
             "todo $.", "todo $. $}"
         )
         self.write("unneeded.mm", unneeded)
+        said = "$( Obsolete as of 1-Jan-2020.  See ~ gone . $)\n"
+        self.write("comments.mm", re.sub(r"\b(two|four|six) \$p", rf"{said}\1 $p", PARTS))
         self.write("few", "two six  # and no other\nfour\n")
         self.write("others", "one none\n# six\nfive")
 
