@@ -6,10 +6,10 @@ _mmquery() {
     if [ "$word" = = ]; then word=; elif [ "$before" = = ]; then
         before=${COMP_WORDS[COMP_CWORD - 2]}; fi
     if [ "$COMP_CWORD" -eq 1 ]; then
-        words='verify rests falls cites cited-by uncited why way-out frees spare repeats unneeded top sets within same compare review history gate chapters steps proofs contributors order unfinished discouraged mathboxes definitions equivalents search needs drop move graph picture page set-proof extract export cache --help --version'
+        words='verify rests falls cites cited-by uncited why way-out frees spare repeats unneeded top sets within same compare review history gate chapters steps proofs contributors order unfinished discouraged mathboxes comments obsolete definitions equivalents search needs drop move graph picture page set-proof extract export cache --help --version'
     else
         case ${COMP_WORDS[1]}:$before in
-            verify:--format | rests:--format | falls:--format | cites:--format | cited-by:--format | uncited:--format | why:--format | way-out:--format | frees:--format | spare:--format | repeats:--format | unneeded:--format | top:--format | sets:--format | within:--format | same:--format | compare:--format | history:--format | chapters:--format | steps:--format | proofs:--format | contributors:--format | order:--format | unfinished:--format | discouraged:--format | mathboxes:--format | equivalents:--format | search:--format | needs:--format | drop:--format | move:--format | export:--format | cache:--format) words='text tsv csv json' ;;
+            verify:--format | rests:--format | falls:--format | cites:--format | cited-by:--format | uncited:--format | why:--format | way-out:--format | frees:--format | spare:--format | repeats:--format | unneeded:--format | top:--format | sets:--format | within:--format | same:--format | compare:--format | history:--format | chapters:--format | steps:--format | proofs:--format | contributors:--format | order:--format | unfinished:--format | discouraged:--format | mathboxes:--format | comments:--format | obsolete:--format | equivalents:--format | search:--format | needs:--format | drop:--format | move:--format | export:--format | cache:--format) words='text tsv csv json' ;;
             review:--format) words='text tsv csv json markdown' ;;
             gate:--format) words='text log json github markdown' ;;
             definitions:--format) words='text tsv csv json github' ;;
@@ -41,7 +41,7 @@ _mmquery() {
                     compare:-*) words='--only --all --axioms --ignore-definitions --essential --open --format --no-cache --limit-time --limit-memory -h --help' ;;
                     review:-*) words='--only --all --axioms --ignore-definitions --essential --open --format --no-cache --limit-time --limit-memory -h --help' ;;
                     history:-*) words='--of --faults --essential --open --format --no-cache --limit-time --limit-memory -h --help' ;;
-                    gate:-*) words='--base --merge-base --config --config-of-new --summary --all --format --no-cache --limit-time --limit-memory -h --help' ;;
+                    gate:-*) words='--base --merge-base --config --config-of-new --summary --all --to-allow --format --no-cache --limit-time --limit-memory -h --help' ;;
                     chapters:-*) words='--level --by --most --no-empty --any --between --of --only --all --axioms --ignore-definitions --essential --open --format --no-cache --limit-time --limit-memory -h --help' ;;
                     steps:-*) words='--all --open --format --no-cache --limit-time --limit-memory -h --help' ;;
                     proofs:-*) words='--by --most --essential --open --format --before --after --main --mathbox --under --like --not --among --not-among --contributor --since --until --no-cache --limit-time --limit-memory -h --help' ;;
@@ -50,6 +50,8 @@ _mmquery() {
                     unfinished:-*) words='--essential --open --format --before --after --main --mathbox --under --like --not --among --not-among --contributor --since --until --no-cache --limit-time --limit-memory -h --help' ;;
                     discouraged:-*) words='--essential --open --format --before --after --main --mathbox --under --like --not --among --not-among --contributor --since --until --no-cache --limit-time --limit-memory -h --help' ;;
                     mathboxes:-*) words='--of --ready --essential --open --format --before --after --main --mathbox --under --like --not --among --not-among --contributor --since --until --no-cache --limit-time --limit-memory -h --help' ;;
+                    comments:-*) words='--open --format --before --after --main --mathbox --under --like --not --among --not-among --contributor --since --until --no-cache --limit-time --limit-memory -h --help' ;;
+                    obsolete:-*) words='--due --essential --open --format --before --after --main --mathbox --under --like --not --among --not-among --contributor --since --until --no-cache --limit-time --limit-memory -h --help' ;;
                     definitions:-*) words='--trust --equality --basis --expand --without --essential --open --format --before --after --main --mathbox --under --like --not --among --not-among --contributor --since --until --no-cache --limit-time --limit-memory -h --help' ;;
                     equivalents:-*) words='--without --only --all --axioms --ignore-definitions --essential --open --format --no-cache --limit-time --limit-memory -h --help' ;;
                     search:-*) words='--given --no-hypotheses --open --format --before --after --main --mathbox --under --like --not --among --not-among --contributor --since --until --no-cache --limit-time --limit-memory -h --help' ;;
