@@ -94,8 +94,8 @@ def help_page() -> str:
     lines += [
         "",
         "DATABASE is a file, also one compressed by gzip, bzip2 or xz; - for standard input;",
-        "REV:PATH, a file of a revision in git, of the repository of the working folder; or",
-        "a report of mmdepend.",
+        "REV:PATH, a file of a revision in git, from the top of the repository of the working",
+        "folder, or typed as a file's path, with /, ./ or ../ first; or a report of mmdepend.",
         "`mmquery COMMAND --help` tells what a command answers, with its options and an example.",
         "",
         "Status 0: answered. 1: the answer to a check is no. 2: no answer, with the reason.",

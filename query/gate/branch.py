@@ -18,9 +18,17 @@ from query.gate.finding import Finding
 from query.gate.request import Request, config_in, with_brought
 from query.git import attributes
 from query.git.objects import Objects, id_of, see_length
-from query.git.repository import NoRepository, Repository, repository_of, short
+from query.git.repository import NoRepository, Repository, repository_for, short
 from query.platform.limits import MOST_DATABASE_BYTES
-from query.program.source import Source, is_of_git, path_from_top, place_of, read_plainly, see_plain
+from query.program.source import (
+    Source,
+    is_of_git,
+    path_from_top,
+    place_of,
+    read_plainly,
+    repository_at,
+    see_plain,
+)
 
 ANCHORS = ("refs/remotes/origin/HEAD", "refs/remotes/origin/main")
 """Whose `mmdepend.toml` says what the base is, where `--base` doesn't: the first that is there."""
@@ -74,12 +82,12 @@ def branch_of(word: str) -> Branch:
     is_revision = is_of_git(word)
     if not is_revision and not os.path.lexists(word):
         raise NoAnswer(f"{shown(word)}: there is no such file")
+    revision, path = place_of(word) if is_revision else ("HEAD", word)
     try:
-        repository = repository_of(Path.cwd())
+        repository = repository_at(path) if is_revision else repository_for(word)
     except NoRepository as why:
-        raise NoAnswer(f"{why}; without git name two files: mmquery gate OLD NEW") from None
+        raise NoRepository(f"{why}; without git name two files: mmquery gate OLD NEW") from None
     if is_revision:
-        revision, path = place_of(word)
         commit = repository.commit(revision)
         return Branch(repository, commit, path_from_top(path, repository))
     path = repository.path_of(word)

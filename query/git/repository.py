@@ -364,6 +364,20 @@ def repository_of(folder: Path) -> Repository:
     return discovered(inner)
 
 
+def repository_for(word: str) -> Repository:
+    """The repository of a file: that of the working folder where the path leads through its top,
+    and otherwise that in which the folder of the file lies.
+
+    So what lies in the repository of the working folder is of no other one, whatever is on the way:
+    what a commit brings there chooses no repository.
+    """
+    try:
+        here = repository_of(Path.cwd())
+    except NoRepository:
+        return repository_with(word)
+    return here if here.has_within(word) else repository_with(word)
+
+
 def repository_with(word: str) -> Repository:
     """The repository in which the folder of a file lies, whatever the working folder is.
 
@@ -378,7 +392,7 @@ def repository_with(word: str) -> Repository:
         found = repository_of(folder)
     except NoRepository:
         where = shown(str(folder))
-        raise NoAnswer(f"{shown(word)}: its folder {where} lies in no git repository") from None
+        raise NoRepository(f"{shown(word)}: its folder {where} lies in no git repository") from None
     if not found.has_within(word):
         where = shown(str(found.top))
         raise NoAnswer(

@@ -183,14 +183,12 @@ def is_of_git(word: str) -> bool:
 def of_git(word: str) -> bytes:
     """The bytes of a file in a revision. NoAnswer where there is none, or it is compressed."""
     # See is_of_git.
-    from pathlib import Path
-
     from query.git.objects import Objects
-    from query.git.repository import repository_of, short
+    from query.git.repository import short
 
-    repository = repository_of(Path.cwd())
-    commit, path = place_of(word)
-    commit = repository.commit(commit)
+    revision, path = place_of(word)
+    repository = repository_at(path)
+    commit = repository.commit(revision)
     with Objects(repository) as objects:
         content = objects.content(commit, path_from_top(path, repository))
     if content is None:
@@ -213,7 +211,29 @@ def place_of(word: str) -> tuple[str, str]:
     return revision or "HEAD", path
 
 
+def is_typed(path: str) -> bool:
+    """Whether the path of `REV:PATH` is typed as that of a file: a whole one, or with `./` or `../`
+    first from the working folder. Any other one is from the top of a repository."""
+    return path.startswith(("/", "./", "../")) or bool(os.path.splitdrive(path)[0])
+
+
+def repository_at(path: str) -> "Repository":
+    """The repository of `REV:PATH`: that of the file where the path is typed as that of one, and
+    otherwise that of the working folder."""
+    # See is_of_git.
+    from pathlib import Path
+
+    from query.git.repository import NoRepository, repository_for, repository_of
+
+    if is_typed(path):
+        return repository_for(path)
+    try:
+        return repository_of(Path.cwd())
+    except NoRepository as why:
+        advice = "with a whole path, or one that begins with ./ or ../, REV:PATH is of any"
+        raise NoRepository(f"{why}; {advice}") from None
+
+
 def path_from_top(path: str, repository: "Repository") -> str:
-    """The path of `REV:PATH` from the top; with `./` or `../` first it is from the working
-    folder."""
-    return repository.path_of(path) if path.startswith(("./", "../")) else path
+    """The path of `REV:PATH` from the top."""
+    return repository.path_of(path) if is_typed(path) else path
