@@ -83,13 +83,17 @@ mmdepend.toml lies at the top of the repository. It counts once the base has it.
   discouraged = false
   [allow]
   axioms = ["ax-mine"]
+  watched = ["ax-to-come"]
   newly.ax-ac2 = ["zorn2"]
   new.ax-ac2 = ["zorn3"]
   open = ["mytheorem"]
   [claims]
   "2p2e4" = ["ax-ac2", "ax-reg"]
 
-Under allow stand the labels of findings that are let through, by rules. Which theorems rest on a
+Under allow stand the labels of findings that are let through, by rules. With --to-allow, lines
+behind the findings say what would have to stand there; in JSON the key `allow` of each finding
+names the list. `allow.watched` is of axioms that are watched before they are there: it lets a
+watched label be missing as long as neither OLD nor NEW has it. Which theorems rest on a
 new axiom is told by `review`; the gate tells it of those that are watched.
 
 A job of CI has git fetch the base with its history, asks the second line below, and fails where
@@ -111,6 +115,7 @@ def configure(parser: Parser) -> None:
     parser.flag("--config-of-new", "judge by the file of NEW, not by the base's")
     parser.value("--summary", "FILE", "adds a summary in Markdown to FILE")
     parser.flag("--all", "tell each theorem, and all findings")
+    parser.flag("--to-allow", "say what mmdepend.toml would have to say to let them through")
 
 
 def between_files(context: Context, arguments: argparse.Namespace) -> Request:
@@ -265,7 +270,8 @@ def run(context: Context, arguments: argparse.Namespace) -> int:
     else:
         request = with_base(arguments)
     limits.choose(limits.chosen().or_else(request.config.limits))
-    verdict = Verdict(request, found_in(request, context, arguments.all))
+    found = found_in(request, context, arguments.all)
+    verdict = Verdict(request, found, tells_allowing=arguments.to_allow)
     for piece in FORMS[context.out.format](verdict, not arguments.all):
         context.out.text(piece)
         if arguments.all:

@@ -41,6 +41,8 @@ DEFAULTS = frozenset(RULES) - {CHOSEN}
 """The rules that count where the file says nothing."""
 RESTING = ("newly", "new")
 """The rules on what rests on watched axioms, in that order."""
+TO_COME = "watched"
+"""The rule whose allowances are watched axioms that needn't be there yet, by their whole labels."""
 MAIN = "main"
 """What the file says of such a rule that judges the main part alone."""
 
@@ -63,6 +65,7 @@ SHAPE: Shape = {
     "rules": {rule: SCOPE if rule in RESTING else SWITCH for rule in RULES if rule in DEFAULTS},
     "allow": {
         "axioms": LABELS,
+        TO_COME: LABELS,
         "newly": LISTS,
         "new": LISTS,
         "avoids": LABELS,
@@ -118,8 +121,8 @@ class Config:
     """Whether the file switches the rule `newly` on or off, and says nothing of `new`, which then
     is as that."""
     allowed: Mapping[str, Labels] = field(default_factory=dict)
-    """Of the rules `axioms`, `avoids`, `open`, `mathboxes` and `discouraged`: what may break
-    them."""
+    """Of the rules `axioms`, `watched`, `avoids`, `open`, `mathboxes` and `discouraged`: what may
+    break them."""
     resting: Mapping[str, Mapping[str, Labels]] = field(default_factory=dict)
     """Of the rules `newly` and `new`: for watched axioms the theorems that may rest on them."""
     claims: tuple[Claim, ...] = ()
@@ -291,7 +294,8 @@ class Checker:
         for word in words:
             if not isinstance(word, str):
                 raise self.fail(path, f"'{key}' isn't {LABELS}: it has {kind_of(word)}")
-            self.check_word(word, path, patterns=path[0] != "claims")
+            may_end_in_star = path[0] != "claims" and path != ("allow", TO_COME)
+            self.check_word(word, path, patterns=may_end_in_star)
         if path[0] == "claims" and not words:
             raise self.fail(path, f"'{key}' is empty, so nothing is claimed")
 

@@ -6,7 +6,8 @@ from dataclasses import dataclass
 @dataclass(frozen=True)
 class Finding:
     """What breaks a rule. `line` and `column` count from 1, and are 0 where there is none; `label`
-    and `axiom` may be ""."""
+    and `axiom` may be "". `allow` is the key of `mmdepend.toml` whose list would let it through if
+    it had the label; "" where none would."""
 
     rule: str
     file: str
@@ -15,3 +16,4 @@ class Finding:
     axiom: str
     reason: str
     column: int = 0
+    allow: str = ""

@@ -12,6 +12,7 @@ from itertools import chain
 
 from query.answers.annotations import escaped
 from query.answers.errors import quiet, shown
+from query.gate.config import FILE_NAME
 from query.gate.finding import Finding
 from query.gate.request import Request
 
@@ -36,6 +37,11 @@ class Verdict:
     """How many findings there were, as far as they were taken."""
     first: list[Finding] = field(default_factory=list)
     """The first ones, as many as are told at the most."""
+    tells_allowing: bool = False
+    """Whether it is told what would let the findings through."""
+    allowing: dict[str, dict[str, None]] = field(default_factory=dict)
+    """For keys of the file the labels that would let through what was told, where that is asked
+    for."""
 
     @property
     def database(self) -> str:
@@ -52,6 +58,12 @@ class Verdict:
         """Remarks that don't change the answer."""
         return self.request.all_notes()
 
+    def to_allow(self) -> Iterator[str]:
+        """What the file would have to have under `allow`, key by key, to let through what was told;
+        nothing where that isn't asked for."""
+        for key, labels in self.allowing.items():
+            yield f"{key} = {json.dumps(list(labels))}"
+
     def told(self, is_short: bool) -> Iterator[Finding]:
         """The findings, or the first ones."""
         for finding in self.found:
@@ -60,6 +72,8 @@ class Verdict:
             if self.count <= MOST_TOLD:
                 self.first.append(finding)
             if self.count <= MOST_TOLD or not is_short:
+                if self.tells_allowing and finding.allow:
+                    self.allowing.setdefault(finding.allow, {})[finding.label] = None
                 yield finding
 
     @property
@@ -78,11 +92,11 @@ class Verdict:
 
 def cut(finding: Finding) -> Finding:
     """A finding whose texts are cut where they are long."""
-    label, axiom, why = (
+    label, axiom, why, allow = (
         text if len(text) <= SHOWN_TEXT else text[:SHOWN_TEXT] + " .."
-        for text in (finding.label, finding.axiom, finding.reason)
+        for text in (finding.label, finding.axiom, finding.reason, finding.allow)
     )
-    return replace(finding, label=label, axiom=axiom, reason=why)
+    return replace(finding, label=label, axiom=axiom, reason=why, allow=allow)
 
 
 def answer(verdict: Verdict) -> str:
@@ -123,6 +137,8 @@ def as_text(verdict: Verdict, is_short: bool) -> Iterator[str]:
         yield f"{rest(verdict.more())}, which --all tells\n"
     for note in verdict.notes:
         yield shown(f"note: {note}") + "\n"
+    for line in verdict.to_allow():
+        yield shown(f"to allow: {line}") + "\n"
     yield shown(summary(verdict)) + "\n"
 
 
@@ -161,7 +177,8 @@ def as_annotations(verdict: Verdict, is_short: bool) -> Iterator[str]:
             properties.append(f"col={finding.column}")
         properties.append(f"title={escaped(f'mmquery gate ({finding.rule})', is_property=True)}")
         label = f"{finding.label}: " if finding.label else ""
-        yield f"::error {','.join(properties)}::{escaped(label + finding.reason)}\n"
+        allow = f"; {finding.allow} of {FILE_NAME} would allow it" if finding.allow else ""
+        yield f"::error {','.join(properties)}::{escaped(label + finding.reason + allow)}\n"
     if is_short and verdict.more():
         yield f"mmquery gate: {rest(verdict.more())}, which --all tells\n"
     for note in verdict.notes:

@@ -66,11 +66,15 @@ class Case:
         """The text of NEW."""
         return self.comparison.text
 
-    def finding(self, rule: str, label: str, reason: str, axiom: str = "") -> Finding:
-        """A finding at an assertion of NEW; without a line where NEW has none of this label."""
+    def finding(
+        self, rule: str, label: str, reason: str, axiom: str = "", allow: str = ""
+    ) -> Finding:
+        """A finding at an assertion of NEW; without a line where NEW has none of this label. What
+        would allow it is the list of the rule, or another one."""
         assertion = self.text.find(label)
         line = self.text.line(assertion.place) if assertion else 0
-        return Finding(rule, self.new.name, line, label, axiom, reason)
+        allow = allow or f"allow.{rule}"
+        return Finding(rule, self.new.name, line, label, axiom, reason, allow=allow)
 
     def judges_axioms_of(self, typecode: str) -> bool:
         """Whether the rule `axioms` judges the axioms of a typecode."""
@@ -128,7 +132,7 @@ def definitions(case: Case) -> Iterator[Finding]:
     """What is called a definition isn't sound, and isn't allowed by its whole label; or one that
     was sound no longer is."""
     for label, reason in introduced(case.comparison).broken(case.config):
-        yield case.finding("definitions", label, reason, label)
+        yield case.finding("definitions", label, reason, label, "allow.axioms")
 
 
 def axioms_now(case: Case) -> Iterator[tuple[str, str]]:
@@ -197,7 +201,9 @@ def watched(case: Case) -> Iterator[Finding]:
     line = case.config.lines.get(("watch",), 0)
     for word in case.config.watch:
         if reason := reason_of_watched(case, word):
-            yield Finding("watched", case.config.name, line, word, word, reason)
+            may_come = case.old_text.find(word) is None and not word.endswith("*")
+            allow = "allow.watched" if may_come and case.text.find(word) is None else ""
+            yield Finding("watched", case.config.name, line, word, word, reason, allow=allow)
     watch = Labels(case.config.watch)
     for label, one in case.comparison.differences.gone.items():
         now = case.comparison.to_new.get(label, label)
@@ -207,11 +213,26 @@ def watched(case: Case) -> Iterator[Finding]:
                 yield Finding("watched", case.config.name, line, label, label, reason)
 
 
+def is_to_come(case: Case, word: str) -> bool:
+    """Whether neither OLD nor NEW has an axiom yet that a word of `watch` names, and the file says
+    that it may be watched before it is there. What OLD has isn't to come, and neither is what is a
+    theorem in NEW."""
+    before, after = case.old_text.find(word), case.text.find(word)
+    return (
+        after is None
+        and (before is None or before.kind != "a")
+        and case.config.allows("watched", word)
+    )
+
+
 def reason_of_watched(case: Case, word: str) -> str:
-    """What became of the axiom that a word of `watch` names; "" where it is there."""
+    """What became of the axiom that a word of `watch` names; "" where it is there, or may be
+    missing still."""
     after = case.text.find(word)
     if word.endswith("*"):
         return "" if meant(word, case.sorted_axioms) else "a watched axiom that is missing"
+    if is_to_come(case, word):
+        return ""
     reason = "a watched axiom that is missing"
     if after is not None and after.kind == "a":
         before = case.old_text.find(word)
@@ -260,7 +281,8 @@ def arrived(case: Case, rule: str, how: str) -> Iterator[Finding]:
             so_do = f"; with {more(each.theorems, 'theorem')} by that" if each.theorems else ""
             reason = f"{how_of(case, each.theorem, how)} {each.axiom}{others}: {way}{so_do}"
             reason += why_judged(case, rule, each.theorem)
-            yield case.finding(rule, each.theorem, reason, each.axiom)
+            allow = key_of(rule, each.axiom)
+            yield case.finding(rule, each.theorem, reason, each.axiom, allow)
         return
     for arrival in case.arrivals.all(rule):
         for column in arrival.columns:
@@ -268,7 +290,12 @@ def arrived(case: Case, rule: str, how: str) -> Iterator[Finding]:
             way = way_of(arrival.theorem, *case.arrivals.cause(arrival.row, column))
             reason = f"{how_of(case, arrival.theorem, how)} {axiom}: {way}"
             reason += why_judged(case, rule, arrival.theorem)
-            yield case.finding(rule, arrival.theorem, reason, axiom)
+            yield case.finding(rule, arrival.theorem, reason, axiom, key_of(rule, axiom))
+
+
+def key_of(rule: str, axiom: str) -> str:
+    """The key of the list of theorems that may rest on an axiom by a rule."""
+    return f'allow.{rule}."{axiom}"' if "." in axiom else f"allow.{rule}.{axiom}"
 
 
 def taken_in(case: Case, rule: str) -> Iterator[Finding]:
@@ -284,7 +311,7 @@ def taken_in(case: Case, rule: str) -> Iterator[Finding]:
                 f" isn't judged by `{rule}`: a header is before it that is new or moved, or one is"
                 " gone"
             )
-            yield case.finding(rule, labels[0], reason)
+            yield case.finding(rule, labels[0], reason, allow="allow.mathboxes")
 
 
 def how_of(case: Case, theorem: str, how: str) -> str:

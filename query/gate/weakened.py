@@ -7,7 +7,7 @@ from collections.abc import Iterator
 from dataclasses import replace
 
 from query.comparisons.changes import Comparison, Side
-from query.gate.config import CHOSEN, RULES, Claim, Config
+from query.gate.config import CHOSEN, RULES, TO_COME, Claim, Config
 from query.gate.finding import Finding
 from query.gate.labels import Labels
 from query.gate.rules import Case, Judge, reason_of_watched
@@ -113,11 +113,13 @@ def lost_claims(old: Config, new: Config) -> Iterator[Finding]:
 
 
 def allowances(old: Config, new: Config) -> Iterator[Finding]:
-    """What is allowed, and wasn't."""
+    """What is allowed, and wasn't. That an axiom needn't be there yet takes nothing away where it
+    comes to be watched by the same file."""
     for rule, labels in new.allowed.items():
         before = old.allowed.get(rule, Labels())
         for word in labels.words:
-            if not before.covers(word):
+            is_asked_newly = rule == TO_COME and word in new.watch and word not in old.watch
+            if not before.covers(word) and not is_asked_newly:
                 reason = f"`allow.{rule}` has '{word}' now"
                 yield Finding("config", new.name, line(new, "allow", rule), word, "", reason)
     for rule, lists in new.resting.items():

@@ -205,9 +205,10 @@ class NoAnswers(Repositories):
         outside.mkdir()
         (outside / "db.mm").write_text(BASE)
         word = str(outside / "db.mm")
-        self.has_no_answer("--base", "main", word, why="not in the repository")
+        why = f"its folder {outside} lies in no git repository; without git name two files"
+        self.has_no_answer("--base", "main", word, why=why)
         folder, self.folder = self.folder, outside
-        self.has_no_answer("--base", "main", "db.mm", why="not a git repository; without git")
+        self.has_no_answer("--base", "main", "db.mm", why=why)
         self.folder = folder
         self.assertEqual(self.gate("db.mm", str(outside / "db.mm"), status=0), [])
 
@@ -718,6 +719,7 @@ class Outputs(Repositories):
                     "axiom": "ax-cheat",
                     "reason": "a new axiom: |- ( 2 + 2 ) = 4",
                     "column": None,
+                    "allow": "allow.axioms",
                 }
             ],
         )
@@ -741,7 +743,7 @@ class Outputs(Repositories):
             commands[0],
             "::error file=sub/a%2Cb%3A 100%25.mm,line=6,title=mmquery gate (axioms)"
             "::df-4: a changed axiom: the formula changed, from |- ( 2 + 2 ) = 4 to"
-            r" |- :\x3aerror:\x3a%250A,:<b>",
+            r" |- :\x3aerror:\x3a%250A,:<b>; allow.axioms of mmdepend.toml would allow it",
         )
         self.assertEqual(done.lines()[2][:24], "mmquery gate: 2 findings")
 
