@@ -6,7 +6,6 @@
 export const Byte = {
     tab: 0x09,
     newline: 0x0a,
-    pageBreak: 0x0c,
     carriageReturn: 0x0d,
     space: 0x20,
     hash: 0x23,

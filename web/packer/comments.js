@@ -1,11 +1,12 @@
 // Comments as lines to be packed, and the flags that are read of them. What markup a comment has is left as it is:
 // markup.js of the view reads it.
 //
-// White space becomes single spaces, but a page break stands where a paragraph ends, and a vertical tab where a line
-// ends within `<PRE>`.
+// White space becomes single spaces, but PARAGRAPH_END stands between paragraphs, and LINE_END between the lines of
+// preformatted text, which is what stands within `<PRE>`.
 
 import { Flag } from "./assertions.js";
 import { Byte, encoded, isSame, textAt } from "./bytes.js";
+import { LINE_END, PARAGRAPH_END } from "./comment-ends.js";
 import { visible } from "./visible.js";
 
 /** @typedef {import("./bytes.js").Writer} Writer */
@@ -20,6 +21,7 @@ const SENTENCES = [
 const LAST = SENTENCES[0].words[3];
 const OPENING = encoded("<pre");
 const CLOSING = encoded("</pre>");
+const [PARAGRAPH_END_BYTE] = encoded(PARAGRAPH_END);
 
 /**
  * The flags of a comment.
@@ -95,7 +97,7 @@ export function putLine(writer, data, start, end) {
 }
 
 /**
- * Adds a comment without preformatted text: its words, a page break between those of different paragraphs.
+ * Adds a comment without preformatted text: its words, with PARAGRAPH_END between those of different paragraphs.
  * @param {Writer} writer
  * @param {Uint8Array} data
  * @param {number} start
@@ -111,7 +113,7 @@ function putPlainLine(writer, data, start, end) {
         let newlines = 0;
         for (; place < end && data[place] <= Byte.space; place++) if (data[place] === Byte.newline) newlines++;
         if (place === end) break;
-        if (!isFirst) bytes[size++] = newlines > 1 ? Byte.pageBreak : Byte.space;
+        if (!isFirst) bytes[size++] = newlines > 1 ? PARAGRAPH_END_BYTE : Byte.space;
         isFirst = false;
         while (place < end && data[place] > Byte.space) bytes[size++] = data[place++];
     }
@@ -176,18 +178,19 @@ function isWordByte(byte) {
 }
 
 /**
- * Adds preformatted text, with a vertical tab where a line ends.
+ * Adds preformatted text, with LINE_END between its lines. There a form feed of the text becomes a space, as it is the
+ * same byte as PARAGRAPH_END; within the tag it stays.
  * @param {Writer} writer
  * @param {Uint8Array} data
  * @param {Preformatted} found
  */
 function putPreformatted(writer, data, found) {
     const lines = textAt(data, found.tagEnd, found.contentEnd).split("\n");
-    const kept = lines.map((line) => withoutTabs(line).trimEnd()).join("\v");
-    const content = kept.replace(/\f/g, " ").replace(/\r/g, "");
+    const kept = lines.map((line) => withoutTabs(line).trimEnd()).join(LINE_END);
+    const content = kept.replaceAll("\f", " ").replaceAll("\r", "");
     const whole = textAt(data, found.start, found.tagEnd) + content + textAt(data, found.contentEnd, found.end);
-    const parts = whole.split("\f").map((part) => part.split("\v").map(visible).join("\v"));
-    writer.text(parts.join("\f"));
+    const shown = (/** @type {string} */ text) => text.split(LINE_END).map(visible).join(LINE_END);
+    writer.text(whole.split(PARAGRAPH_END).map(shown).join(PARAGRAPH_END));
 }
 
 /**

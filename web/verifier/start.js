@@ -78,9 +78,10 @@ class Start {
         this.running = null;
         /** Counts what was begun, so that what was cancelled ends where it next looks. */
         this.turn = 0;
-        /** What ends the page of the database that is shown. */
+        /** What ends the page of a database, when another one is chosen. */
         this.endPage = () => {};
-        this.isShown = false;
+        /** Whether the page of a database is shown, in place of the view at the start. */
+        this.isPageShown = false;
         /** The view at the start, which comes back for another database. */
         this.parts = Array.from(this.main.childNodes);
         this.listen();
@@ -95,7 +96,7 @@ class Start {
         byId("cancel").addEventListener("click", () => this.cancel());
         byId("skip").addEventListener("click", (event) => {
             event.preventDefault();
-            if (!this.isShown) this.main.querySelector("h1")?.focus();
+            if (!this.isPageShown) this.main.querySelector("h1")?.focus();
         });
         document.addEventListener("dragover", (event) => {
             event.preventDefault();
@@ -115,10 +116,10 @@ class Start {
 
     /** Goes back to the view at the start, whatever was shown or done; the options are those that were chosen last. */
     startOver() {
-        if (this.isShown) {
+        if (this.isPageShown) {
             this.endPage();
             this.endPage = () => {};
-            this.isShown = false;
+            this.isPageShown = false;
             history.replaceState(null, "", window.location.pathname + window.location.search);
             this.main.replaceChildren(...this.parts);
             byId("home").textContent = document.title = TITLE;
@@ -246,7 +247,7 @@ class Start {
      */
     async show(blocks, request, database) {
         const model = new Model(new MadeBlocks(blocks));
-        this.isShown = true;
+        this.isPageShown = true;
         byId("home").textContent = model.facts.title;
         const saving = new Saving(this.tools, request, database, () => this.offerAgain());
         byId("more").replaceChildren(...saving.parts());

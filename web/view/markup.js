@@ -1,5 +1,7 @@
 // Reads the markup of a comment: what it is made of, as plain data. Nothing of the text is markup for the browser.
 
+import { LINE_END, PARAGRAPH_END } from "../packer/comment-ends.js";
+
 /**
  * A part of a comment. `element` has one of the names of ELEMENTS.
  * @typedef {{ type: "text", text: string }
@@ -27,10 +29,6 @@
  * @property {Credit[]} credits
  */
 
-/** Between paragraphs, and at the end of a line of preformatted text; as in comments.js of the packer. */
-const PARAGRAPH = "\f";
-const BREAK = "\v";
-
 /** (Contributed by NM, 12-Aug-2004.) and the like. */
 const DEEDS = "Contributed|Revised|Proof (?:shortened|revised|modified)|Shortened|Modified|Proposed|Renamed|Suggested";
 /** Its parts have a greatest length, so that no comment takes more time than its length says. */
@@ -50,7 +48,7 @@ const SPECIAL = new RegExp(
         /\[\[|\[([A-Z][^\s[\]]*)\](\s+pp?\.\s+[0-9ivxlIVXL][0-9ivxlIVXL-]*)?/, // a reference with its page
         /(?<![A-Za-z0-9])_([^\s_](?:[^_]*[^\s_])?)_(?![A-Za-z0-9])/, // emphasis
         /<(\/?)([A-Za-z]+)(?![A-Za-z])([^<>]*)>/, // a tag
-        /\f|\v/, // the end of a paragraph, of a line
+        new RegExp(`[${PARAGRAPH_END}${LINE_END}]`),
     ]
         .map((pattern) => pattern.source)
         .join("|"),
@@ -228,8 +226,8 @@ class Reader {
     special(match) {
         const [whole, math, label, author, page, emphasis, slash, tag, more] = match;
         if (whole === "``" || whole === "~~" || whole === "[[") this.text(whole[0]);
-        else if (whole === PARAGRAPH) this.paragraph();
-        else if (whole === BREAK) this.text("\n");
+        else if (whole === PARAGRAPH_END) this.paragraph();
+        else if (whole === LINE_END) this.text("\n");
         else if (math !== undefined) this.math(math);
         else if (label !== undefined) this.label(whole, label);
         else if (author !== undefined) this.children.push({ type: "reference", author, page: (page ?? "").trim() });

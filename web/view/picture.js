@@ -195,36 +195,37 @@ export class Picture extends Drawing {
     }
 
     /**
-     * How many marks each bin has, and how many cells.
+     * How many marks each bin of the picture has, how many rows each bin downwards has, and how many columns each bin
+     * across.
      * @param {Bins} down
      * @param {Bins} across
      */
     countMarks(down, across) {
         const marks = new Uint32Array(down.number * across.number);
-        const tall = new Uint32Array(down.number);
-        const broad = new Uint32Array(across.number);
-        for (let index = across.low; index < across.high; index++) broad[across.of(index)]++;
-        if (down.scale <= 1 / BLOCK) this.countBlocks(down, across, marks, tall);
-        else this.countRows(down, across, marks, tall);
-        return { marks, tall, broad };
+        const rowsIn = new Uint32Array(down.number);
+        const columnsIn = new Uint32Array(across.number);
+        for (let index = across.low; index < across.high; index++) columnsIn[across.of(index)]++;
+        if (down.scale <= 1 / BLOCK) this.countBlocks(down, across, marks, rowsIn);
+        else this.countRows(down, across, marks, rowsIn);
+        return { marks, rowsIn, columnsIn };
     }
 
     /**
-     * Counts the marks of each bin by blocks of BLOCK rows, from what each column has above them; `tall` gets the rows
-     * of each bin downwards.
+     * Counts the marks of each bin by blocks of BLOCK rows, from what each column has above them; `rowsIn` gets how
+     * many rows each bin downwards has.
      * @param {Bins} down
      * @param {Bins} across
      * @param {Uint32Array} marks of each bin downwards those of the bins across
-     * @param {Uint32Array} tall
+     * @param {Uint32Array} rowsIn
      */
-    countBlocks(down, across, marks, tall) {
+    countBlocks(down, across, marks, rowsIn) {
         const { above, columns, blocks } = this.counts;
         const bins = new Int32Array(across.high - across.low);
         for (let index = across.low; index < across.high; index++) bins[index - across.low] = across.of(index);
         for (let downBin = 0; downBin < down.number; downBin++) {
             const first = Math.min(blocks, Math.round((down.from + downBin / down.scale) / BLOCK));
             const end = Math.min(blocks, Math.round((down.from + (downBin + 1) / down.scale) / BLOCK));
-            tall[downBin] = Math.min(this.rows, end * BLOCK) - first * BLOCK;
+            rowsIn[downBin] = Math.min(this.rows, end * BLOCK) - first * BLOCK;
             for (let index = 0; index < bins.length; index++) {
                 const column = this.order[across.low + index];
                 const number = above[end * columns + column] - above[first * columns + column];
@@ -234,19 +235,19 @@ export class Picture extends Drawing {
     }
 
     /**
-     * Counts the marks of each bin row by row; `tall` gets the rows of each bin downwards.
+     * Counts the marks of each bin row by row; `rowsIn` gets how many rows each bin downwards has.
      * @param {Bins} down
      * @param {Bins} across
      * @param {Uint32Array} marks of each bin downwards those of the bins across
-     * @param {Uint32Array} tall
+     * @param {Uint32Array} rowsIn
      */
-    countRows(down, across, marks, tall) {
+    countRows(down, across, marks, rowsIn) {
         const { bits, rowWords } = this.model;
         const bins = new Int32Array(this.model.axioms.length).fill(-1);
         for (let index = across.low; index < across.high; index++) bins[this.order[index]] = across.of(index);
         for (let row = down.low; row < down.high; row++) {
             const downBin = down.of(row);
-            tall[downBin]++;
+            rowsIn[downBin]++;
             for (let word = 0; word < rowWords; word++) {
                 let left = bits[row * rowWords + word];
                 while (left !== 0) {
@@ -262,9 +263,9 @@ export class Picture extends Drawing {
      * The dots: the more of its cells are marked, the stronger is a bin. One mark is enough to be seen.
      * @param {Bins} down
      * @param {Bins} across
-     * @param {{ marks: Uint32Array, tall: Uint32Array, broad: Uint32Array }} counted
+     * @param {{ marks: Uint32Array, rowsIn: Uint32Array, columnsIn: Uint32Array }} counted
      */
-    paint(down, across, { marks, tall, broad }) {
+    paint(down, across, { marks, rowsIn, columnsIn }) {
         const image = this.pen.createImageData(this.wide, this.high);
         const dots = new Uint32Array(image.data.buffer);
         const ramps = this.ramps();
@@ -280,7 +281,7 @@ export class Picture extends Drawing {
             if (bin !== lineOf) {
                 for (let index = 0; index < across.number; index++) {
                     const number = marks[bin * across.number + index];
-                    const share = number / (tall[bin] * broad[index]);
+                    const share = number / (rowsIn[bin] * columnsIn[index]);
                     const shade = number === 0 ? 0 : Math.min(SHADES - 1, Math.ceil(Math.sqrt(share) * (SHADES - 1)));
                     line[index] = (rampOf[index] ?? ramps[0])[shade];
                 }
@@ -547,9 +548,10 @@ export class Picture extends Drawing {
         if (event.key in steps) {
             const [dy, dx] = steps[event.key];
             const far = event.shiftKey ? FAR : 1;
-            const tall = Math.max(1, Math.ceil((bottom - top) / (this.high / this.ratio / 2))) * far;
-            const broad = Math.max(1, Math.ceil((right - left) / (this.wide / this.ratio / 2))) * far;
-            this.point(at.row + dy * tall, at.index + dx * broad);
+            // A cell, or as many as two pixels of the page have.
+            const rows = Math.max(1, Math.ceil((bottom - top) / (this.high / this.ratio / 2))) * far;
+            const columns = Math.max(1, Math.ceil((right - left) / (this.wide / this.ratio / 2))) * far;
+            this.point(at.row + dy * rows, at.index + dx * columns);
         } else if (event.key in pages) {
             this.move(pages[event.key], 0);
             this.point(at.row + pages[event.key] * (bottom - top), at.index);

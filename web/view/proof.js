@@ -37,13 +37,14 @@ export class ProofView {
     }
 
     /**
+     * Puts into the section what it has once the proof was read, or why that can't be shown.
      * @param {HTMLElement} holder
      * @param {number} theorem
      */
     async fill(holder, theorem) {
         await new Promise((resume) => setTimeout(resume)); // until it is part of the page
         try {
-            holder.replaceChildren(...(await this.made(holder, theorem)));
+            holder.replaceChildren(...(await this.contentOf(holder, theorem)));
             holder.setAttribute("aria-busy", "false");
         } catch (error) {
             if (error instanceof Abandoned) return;
@@ -53,11 +54,13 @@ export class ProofView {
     }
 
     /**
-     * @param {HTMLElement} holder
+     * What the section has once the proof was read: how many steps there are, the steps, and where some only build
+     * formulas a button that shows these too.
+     * @param {HTMLElement} holder the proof is read only as long as this is part of the page
      * @param {number} theorem
      * @returns {Promise<Child[]>}
      */
-    async made(holder, theorem) {
+    async contentOf(holder, theorem) {
         const turns = new Turns(() => holder.isConnected);
         const steps = await this.proofs.steps(theorem, turns);
         const derivation = new Derivation(this.proofs, steps);
@@ -68,7 +71,7 @@ export class ProofView {
             list.replaceChildren(areAll ? this.list(derivation, all, true) : this.list(derivation, essential, false));
         };
         put(false);
-        if (all.length === essential.length) return [this.summary(derivation, all.length, 0), list];
+        if (all.length === essential.length) return [this.summary(all.length, 0), list];
         const button = element("button", { type: "button", class: "ask", "aria-pressed": "false" });
         button.append(`All ${counted(all.length, "step")}`);
         button.addEventListener("click", () => {
@@ -76,17 +79,17 @@ export class ProofView {
             button.setAttribute("aria-pressed", String(areAll));
             put(areAll);
         });
-        const summary = this.summary(derivation, essential.length, all.length - essential.length);
+        const summary = this.summary(essential.length, all.length - essential.length);
         summary.append(" ", button);
         return [summary, list];
     }
 
     /**
-     * @param {Derivation} derivation
-     * @param {number} shown
+     * How many steps there are.
+     * @param {number} shown how many of them are shown at first
      * @param {number} others how many steps only build formulas
      */
-    summary(derivation, shown, others) {
+    summary(shown, others) {
         const summary = counted(shown, "step");
         const more = others === 0 ? "." : `, and ${counted(others, "other")}, which only build formulas.`;
         return this.elements.hint(`${summary}${more}`, { id: "proof-told" });
