@@ -302,18 +302,31 @@ class ReportPage(World):
     """docs/REPORT.md: its examples are what the program gives."""
 
     def test_the_examples(self) -> None:
-        text = (TOP / "docs" / "REPORT.md").read_text()
-        shown = re.findall(r"^```\n(.*?)^```", text, re.S | re.M)
-        self.assertEqual(len(shown), 9)
-        self.write("page.mm", shown[0])
-        self.write("open.mm", shown[0] + shown[7])
-        self.assertEqual(self.report("page.mm"), shown[1])
-        self.assertEqual(self.report("page.mm", "--only", "|-", "--report", "counts"), shown[2])
-        self.assertIn(shown[3], self.report("page.mm", "--form", "2"))
-        self.assertEqual(self.report("page.mm", "--essential"), shown[4])
-        self.assertEqual(self.report("page.mm", "--report", "citations"), shown[5])
-        self.assertEqual(self.report("page.mm", "--report", "statements"), shown[6])
-        self.assertEqual(self.report("open.mm", "--open", "--report", "counts"), shown[8])
+        page = (TOP / "docs" / "REPORT.md").read_text()
+        blocks_shown = re.findall(r"^```\n(.*?)^```", page, re.S | re.M)
+        # What the page shows, in its order.
+        (
+            database,
+            whole,
+            logical_counts,
+            matrix_of_form_2,
+            essential,
+            citations,
+            statements,
+            open_theorem,
+            open_counts,
+        ) = blocks_shown
+        self.write("page.mm", database)
+        self.write("open.mm", database + open_theorem)
+        self.assertEqual(self.report("page.mm"), whole)
+        self.assertEqual(
+            self.report("page.mm", "--only", "|-", "--report", "counts"), logical_counts
+        )
+        self.assertIn(matrix_of_form_2, self.report("page.mm", "--form", "2"))
+        self.assertEqual(self.report("page.mm", "--essential"), essential)
+        self.assertEqual(self.report("page.mm", "--report", "citations"), citations)
+        self.assertEqual(self.report("page.mm", "--report", "statements"), statements)
+        self.assertEqual(self.report("open.mm", "--open", "--report", "counts"), open_counts)
 
 
 if __name__ == "__main__":
