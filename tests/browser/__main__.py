@@ -20,8 +20,11 @@ import sys
 import tempfile
 from pathlib import Path
 
-from tests.browser import browsers, figures, hostile, interface, proofs, views
+from tests.browser import browsers, figures, hostile, interface, proofs, refusals, views
 from tests.browser.browsers import Browser
+from tests.browser.loading import check_policy
+from tests.browser.making import make_page
+from tests.browser.releases import check_against
 from tests.browser.truth import Truth, metamath_conditions
 from tests.browser.views import Shown
 from tests.shared.checks import check, checks, figure, same
@@ -61,7 +64,7 @@ class Pages:
         database = DEBIAN_DATABASES / f"{name}.mm"
         page = self.folder / f"{name}.html"
         if name not in self.made:
-            took = hostile.make_page(database, page)
+            took = make_page(database, page)
             self.made[name] = (page, Truth(database), took)
             figure(f"bytes of the page of {name}.mm", page.stat().st_size, figures.MOST_PAGE_BYTES)
         page, truth, took = self.made[name]
@@ -75,11 +78,11 @@ def try_hostile(browser: Browser, folder: Path) -> None:
     hostile.check_hostile(browser, folder, [], True)
     for words in (["--only", "|-"], ["--only", "|-", "--open", "--essential"]):
         hostile.check_hostile(browser, folder, words, False)
-    hostile.check_policy(browser, page)
+    check_policy(browser, page)
     hostile.check_corners(browser, folder)
     hostile.check_misleading(browser, folder)
     hostile.check_failing(browser, folder)
-    hostile.check_against(browser, folder)
+    check_against(browser, folder)
 
 
 def try_database(browser: Browser, pages: Pages, name: str, rng: random.Random) -> None:
@@ -170,7 +173,7 @@ def main() -> None:
         pages = Pages(folder, options)
         is_partial = options.measure or options.database is not None
         if not is_partial:
-            hostile.check_refusals(folder)
+            refusals.check_refusals(folder)
         for at, kind in enumerate(kinds):
             browser = kind()
             stack.callback(browser.close)

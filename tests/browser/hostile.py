@@ -1,15 +1,7 @@
-"""Pages of databases that do harm or lack something, of two releases, and what has no page."""
+"""Pages of databases that do harm or lack something."""
 
-import functools
-import http.server
-import os
-import re
-import signal
-import subprocess
-import threading
 import time
 from pathlib import Path
-from typing import Any
 
 from tests.browser.browsers import Browser
 from tests.browser.databases import (
@@ -19,41 +11,21 @@ from tests.browser.databases import (
     EVIL_TITLE,
     EVIL_TYPESETTING,
     MISLEADING,
-    NEWER,
-    OLDER,
     OPEN,
     SHOWN_TITLE,
     endless,
 )
 from tests.browser.interface import check_narrow
+from tests.browser.making import make_page
 from tests.browser.scripts import CONTRAST
-from tests.browser.truth import HERE, PROGRAM, Truth
+from tests.browser.truth import Truth
 from tests.browser.views import Shown
 from tests.shared.blocks import with_block
 from tests.shared.checks import check, same
-from tests.shared.samples import DEBIAN_DATABASES
 
 FAILED = "This can't be shown"
 """The heading of a view that could not be made."""
 HEADING = "return document.querySelector('#main h1')?.textContent"
-COMMAND = [str(HERE / "mmquery")]  # itself: its first line keeps back signals at first
-ENVIRONMENT = {**os.environ, "MMDEPEND": PROGRAM}
-
-
-def run(words: list[str], **more: Any) -> "subprocess.CompletedProcess[bytes]":
-    """Runs a command of mmquery."""
-    more.setdefault("stdout", subprocess.PIPE)
-    return subprocess.run([*COMMAND, *words], stderr=subprocess.PIPE, env=ENVIRONMENT, **more)
-
-
-def make_page(database: Path, page: Path, *words: str) -> float:
-    """Makes a page, and says how many seconds that took."""
-    began = time.time()
-    with page.open("wb") as file:
-        done = run(["page", "--no-cache", *words, str(database)], stdout=file)
-    what = f"page {' '.join(words)} {database.name}"
-    check(done.returncode == 0, what, done.stderr.decode())
-    return time.time() - began
 
 
 def check_hostile(browser: Browser, folder: Path, words: list[str], is_typeset: bool) -> Path:
@@ -240,7 +212,8 @@ document.createElement = () => {
 
 
 def check_failing(browser: Browser, folder: Path) -> None:
-    """A view that can't be made says so: nothing of another one stands under its address."""
+    """A view that can't be made says so: nothing of another one stands under its address. The same
+    address shows its view where that can be made."""
     (folder / "commented.mm").write_text(COMMENTED)
     page, damaged = folder / "commented.html", folder / "damaged.html"
     make_page(folder / "commented.mm", page)
@@ -250,9 +223,9 @@ def check_failing(browser: Browser, folder: Path) -> None:
     damaged.write_text(text, "utf-8")
     for address, heading in (("#axiom=told", "told"), ("#chapter=1", "A part")):
         browser.open(damaged, "#theorem=untold")
-        fails(browser, address, "untold")
+        check_view_fails(browser, address, "untold")
         browser.open(page, "#theorem=untold")
-        shows(browser, address, heading)
+        check_view_is_made(browser, address, heading)
     for address, heading in (
         *(("#axiom=told", "told"), ("#chapter=1", "A part"), ("#search=a", "Search")),
         *(("#theorem=untold", "untold"), ("#", "commented.mm")),
@@ -262,14 +235,15 @@ def check_failing(browser: Browser, folder: Path) -> None:
         )
         browser.open(page, before)
         browser.run(THROWS_ONCE)
-        fails(browser, address, there)
-        shows(browser, before, there)
-        shows(browser, address, heading)
+        check_view_fails(browser, address, there)
+        check_view_is_made(browser, before, there)
+        check_view_is_made(browser, address, heading)
     browser.messages()
 
 
-def fails(browser: Browser, address: str, before: str) -> None:
-    """A view that can't be made is told in place of the one before."""
+def check_view_fails(browser: Browser, address: str, before: str) -> None:
+    """The view at an address can't be made, and in place of the view with the heading `before` the
+    page says so."""
     when = f"{browser.name}: after {before}, {address}"
     check(before in str(browser.run(HEADING)), f"{when}: the view before")
     browser.run("window.location.hash = arguments[0]", address)
@@ -280,8 +254,8 @@ def fails(browser: Browser, address: str, before: str) -> None:
     same(title, "Not shown \u2014 commented.mm", f"{when}: the title")
 
 
-def shows(browser: Browser, address: str, heading: str) -> None:
-    """The control: this view can be made."""
+def check_view_is_made(browser: Browser, address: str, heading: str) -> None:
+    """The view at an address can be made, and has this heading."""
     browser.run("window.location.hash = arguments[0]", address)
     shown = "document.querySelector('#main h1')?.textContent.startsWith(arguments[0])"
     told = f"{browser.name}: {address} shows {heading}"
@@ -303,162 +277,3 @@ def check_doubling(browser: Browser) -> None:
         check(wanted in str(told), f"{browser.name}: the proof of {label}", str(told)[:300])
         size = browser.run("return document.getElementById('proof').textContent.length")
         check(size < 100_000, f"{browser.name}: what is shown of the proof of {label}", size)
-
-
-def check_against(browser: Browser, folder: Path) -> None:
-    """A release beside the one before: what is new, gone and renamed, what gained axioms, why."""
-    for name, text in (("older", OLDER), ("newer", NEWER)):
-        (folder / f"{name}.mm").write_text(text)
-    page = folder / "against.html"
-    make_page(folder / "newer.mm", page, "--against", str(folder / "older.mm"), "--watch", "ax-2")
-    browser.open(page, "#difference")
-    view = browser.show("#difference", "Since older.mm")
-    text = " ".join(view["text"].split())
-    for part in (
-        "3new axioms",
-        "New theorems: 1",
-        "Renamed: 1",
-        "renamed was old",
-        "Changed statementsNone.",
-        "Gone theorems: 1",
-        "gone |- B",
-        "ax-2 3 theorems",
-        "since b now cites c",
-        "since d no longer cites ax-1",
-    ):
-        check(part in text, f"{browser.name}: the difference tells '{part}'", text)
-    view = browser.show("#theorem=b", "b")
-    for part in ("gainedax-2since b now cites c", "gainedax-5since b now cites ax-5", "lostax-1"):
-        check(part in view["since"], f"{browser.name}: b tells '{part}'", view["since"])
-    view = browser.show("#theorem=renamed", "renamed")
-    check("Its label was old." in view["since"], f"{browser.name}: a renamed one", view["since"])
-    view = browser.show("#theorem=fresh", "fresh")
-    check("It is new." in view["since"], f"{browser.name}: a new one", view["since"])
-    view = browser.show("#theorem=c", "c")
-    same(view["since"], "", f"{browser.name}: one that is as it was")
-    view = browser.show("#chapter=1.1", "Chapter one")
-    for part in ("4 new", "1 gone", "1 renamed"):
-        check(part in view["since"], f"{browser.name}: the chapter tells '{part}'", view["since"])
-    same(view["shares"][0][0], "ax-2", f"{browser.name}: the watched axiom comes first")
-    same(browser.messages(), [], f"{browser.name}: messages in the console of two releases")
-
-
-class Asked(http.server.SimpleHTTPRequestHandler):
-    """A server that keeps what it was asked for."""
-
-    paths: list[str] = []
-
-    def do_GET(self) -> None:
-        self.paths.append(self.path)
-        super().do_GET()
-
-    def log_message(self, format: str, *words: Any) -> None:
-        """Says nothing."""
-
-
-LOADING = """(async (address) => {
-    const done = [];
-    new Image().src = `${address}/image`;
-    for (const [name, key] of [["script", "src"], ["iframe", "src"], ["link", "href"]]) {
-        const made = document.createElement(name);
-        try {
-            made.rel = "stylesheet";
-            made[key] = `${address}/${name}`;
-            document.body.append(made);
-        } catch (error) {
-            done.push(name);
-        }
-    }
-    await fetch(`${address}/fetch`).catch(() => done.push("fetch"));
-    const inline = document.createElement("style");
-    inline.textContent = "h1 { color: rgb(1, 2, 3) }";
-    document.head.append(inline);
-    if (getComputedStyle(document.querySelector("h1")).color !== "rgb(1, 2, 3)") done.push("style");
-    await new Promise((resume) => setTimeout(resume, 500));
-    return done;
-})"""
-
-
-def check_policy(browser: Browser, page: Path) -> None:
-    """Nothing is loaded, neither by the page nor by what might come into it."""
-    Asked.paths.clear()
-    handler = functools.partial(Asked, directory=page.parent)
-    server = http.server.ThreadingHTTPServer(("127.0.0.1", 0), handler)
-    threading.Thread(target=server.serve_forever, daemon=True).start()
-    address = f"http://127.0.0.1:{server.server_port}"
-    browser.go(f"{address}/{page.name}")
-    browser.wait("document.documentElement.dataset.state === 'shown'")
-    time.sleep(1)
-    asked = [path for path in Asked.paths if path != "/favicon.ico"]
-    same(asked, [f"/{page.name}"], f"{browser.name}: the page loads nothing")
-    same(browser.messages(), [], f"{browser.name}: messages in the console over HTTP")
-    Asked.paths.clear()
-    told = browser.call(LOADING, address)
-    same(Asked.paths, [], f"{browser.name}: the policy forbids loading")
-    for name in ("fetch", "style"):
-        check(name in told, f"{browser.name}: the policy forbids {name}", told)
-    browser.messages()
-    server.shutdown()
-
-
-def check_refusals(folder: Path) -> None:
-    """Where there is no page, nothing is on standard output, and one line says why."""
-    broken = folder / "broken.mm"
-    broken.write_text("$c a $.\nx $a a b $.\n")
-    report = folder / "some.report"
-    demo = str(DEBIAN_DATABASES / "demo0.mm")
-    report.write_bytes(subprocess.run([PROGRAM, demo], stdout=subprocess.PIPE).stdout)
-    empty = folder / "empty.mm"
-    empty.write_text("")
-    cases: list[tuple[list[str], str]] = [
-        ([str(broken)], r".*broken\.mm:2:8: refused E18.*"),
-        ([str(folder / "nowhere.mm")], r".*nowhere\.mm.*"),
-        ([str(folder)], r".*"),
-        ([str(report)], r".*a report, where the database is wanted"),
-        ([str(empty)], r".*has neither axioms nor theorems"),
-        (["--only", "nothing", demo], r".*has no axiom of typecode 'nothing'"),
-        (["--watch", "nothing", demo], r".*has no axiom 'nothing' to be watched"),
-        (["--against", str(report), demo], r".*a report, where the database is wanted"),
-        (["--title"], r".*--title.*"),
-        (["--nothing", demo], r".*--nothing.*"),
-        ([], r".*"),
-        ([demo, demo], r".*"),
-    ]
-    for words, told in cases:
-        done = run(["page", *words])
-        line = done.stderr.decode()
-        answer = (done.returncode, done.stdout, bool(re.fullmatch(f"mmquery: {told}\n", line)))
-        same(answer, (2, b"", True), f"page {' '.join(words)}: {line}")
-    with open("/dev/full", "wb") as full:
-        done = run(["page", demo], stdout=full)
-    told = done.stderr.decode()
-    same((done.returncode, told.count("\n")), (2, 1), f"a full disk: {told}")
-    piped = run(["page", "-"], input=Path(demo).read_bytes())
-    is_named = b"standard input" in piped.stdout
-    check(piped.returncode == 0 and is_named, "a page from standard input", piped.stderr)
-    again = [run(["page", demo]).stdout for _ in range(2)]
-    check(again[0] == again[1] != b"", "the same page each time")
-    check_interrupt()
-
-
-def check_interrupt() -> None:
-    """Ctrl-C says one line, at any moment; the status is 130."""
-    for seconds in (0.3, 1.5, 4):
-        words = [*COMMAND, "page", "--no-cache", str(DEBIAN_DATABASES / "set.mm")]
-        process = subprocess.Popen(
-            words,
-            stdout=subprocess.PIPE,
-            stderr=subprocess.PIPE,
-            env=ENVIRONMENT,
-            preexec_fn=heed_interrupts,
-        )
-        time.sleep(seconds)
-        process.send_signal(signal.SIGINT)
-        out, errors = process.communicate()
-        answer = (process.returncode, out, errors)
-        same(answer, (130, b"", b"mmquery: interrupted\n"), f"Ctrl-C after {seconds} s")
-
-
-def heed_interrupts() -> None:
-    """Heeds interrupts, which may be ignored where this test runs in the background."""
-    signal.signal(signal.SIGINT, signal.SIG_DFL)

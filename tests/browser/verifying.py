@@ -22,10 +22,11 @@ from tests.browser import proofs
 from tests.browser.browsers import WINDOW, Browser, Chromium, Keys, WebKit
 from tests.browser.databases import EVIL, EVIL_TYPESETTING, NEWER, OLDER, OPEN
 from tests.browser.interface import LEAST_CONTRAST
+from tests.browser.loading import Asked
+from tests.browser.making import run
 from tests.browser.scripts import CONTRAST, GATHER, NAMES, TARGETS
 from tests.browser.truth import HERE, PROGRAM, Truth
 from tests.browser.views import Shown
-from tests.browser.hostile import Asked, run
 from tests.shared.blocks import blocks_in
 from tests.shared.checks import check, figure, same
 from tests.shared.samples import DEBIAN_DATABASES
