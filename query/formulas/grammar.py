@@ -102,8 +102,7 @@ class Grammar:
         self.size = 0
         """How many symbols the axioms have."""
         self.equal: dict[str, list[tuple[int, int]]] = {}
-        """For each in which a variable occurs again, the numbers of two occurrences among those of
-        all variables."""
+        """For each in which a variable occurs again, the `repetitions` of its variables."""
         self.typecodes: dict[str, str] = {}
         """The typecode of each."""
         self._constants: dict[str, list[str]] = {}
@@ -127,7 +126,7 @@ class Grammar:
             self.shapes[label] = tuple(variables.get(each, each) for each in symbols)
             self._constants[label] = [each for each in symbols if each not in variables]
             if len({*names}) < len(names):
-                self.equal[label] = list(pairs_of(names))
+                self.equal[label] = list(repetitions(names))
 
     def constants(self, label: str) -> list[str]:
         """The constants of a syntax axiom, in order."""
@@ -259,8 +258,9 @@ class FormulaReader:
         )
 
 
-def pairs_of(names: Sequence[str]) -> Iterator[tuple[int, int]]:
-    """For each name that was there before its index, and that of its first occurrence."""
+def repetitions(names: Sequence[str]) -> Iterator[tuple[int, int]]:
+    """For each name that stood there before the index of its first occurrence, and its own index.
+    As a name is a variable, the parts with these numbers have to be equal."""
     first: dict[str, int] = {}
     for index, name in enumerate(names):
         if first.setdefault(name, index) != index:
