@@ -18,7 +18,7 @@ from query.spare.index import GivenUp, Prefix, chosen
 from query.spare.proofs import Step
 from query.spare.search import MOST_TRIED, Premise, Search, Steps
 from query.spare.shape import Cited, Shape
-from query.spare.unknowns import UNKNOWN, Slots
+from query.spare.unknowns import UNKNOWN, NodesOfVariables
 from query.spare.variables import Variables
 
 MOST_FAULTS = 3
@@ -81,7 +81,7 @@ class General(Shape):
         """Finds something for the faults from this number on. There are at most MOST_FAULTS, one
         within the other."""
         if number == len(self.faults):
-            self.found = self.filled(self.search.free.steps, variables)
+            self.found = self.with_variables(self.search.free.steps, variables)
             return self.found is not None
         ways = self.ways(self.faults[number])
         return any(self.fill(number + 1, variables) for _ in ways)
@@ -97,10 +97,13 @@ class General(Shape):
             nodes.undo(length)
         for statement in sorted(self.fitting(node)):
             citable = self.search.shelf.citable[statement]
-            slots: Slots = {}
-            if nodes.unify(self.instance(citable.rule.tree, slots), node, self.budget):
-                essential = [self.instance(one.number, slots) for one in citable.rule.essential()]
-                self.cited[fault] = Cited(citable.rule, slots, [])
+            rule = citable.rule
+            node_of_variable: NodesOfVariables = {}
+            if nodes.unify(self.instance(rule.tree, node_of_variable), node, self.budget):
+                essential = [
+                    self.instance(one.number, node_of_variable) for one in rule.essential()
+                ]
+                self.cited[fault] = Cited(rule, node_of_variable, [])
                 self.tries = MOST_TRIED
                 yield from self.proved(citable.premises, essential)
                 del self.cited[fault]

@@ -72,7 +72,7 @@ class Machine:
         self.proof.words = words
         if words[0] == "(":
             end = words.index(")")
-            labels = [each.label for each in theorem.given] + list(words[1:end])
+            labels = [each.label for each in theorem.hypotheses] + list(words[1:end])
             self.compressed(labels, "".join(words[end + 1 :]))
         else:
             for word in words:
@@ -116,7 +116,7 @@ class Machine:
         self.left -= 1
         if self.left < 0 or meant.tree < 0:
             raise Unfit
-        stack, count = self.stack, len(meant.given)
+        stack, count = self.stack, len(meant.hypotheses)
         entries = stack[len(stack) - count :]
         del stack[len(stack) - count :]
         if meant.is_logical:
@@ -136,7 +136,7 @@ class Machine:
         """The formula that a citation proves."""
         filled: list[int] = []
         premises: list[int] = []
-        for one, entry in zip(rule.given, entries):
+        for one, entry in zip(rule.hypotheses, entries):
             if (entry < 0) == one.is_floating:
                 raise Unfit
             (filled if one.is_floating else premises).append(entry)

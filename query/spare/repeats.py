@@ -63,7 +63,7 @@ class Ways(Search):
 
     def is_enough(self, citable: Citable, binding: Binding, premises: list[int]) -> bool:
         """Notes a step, and goes on."""
-        self.found.append(step_of(citable, binding, premises))
+        self.found.append(step_of(citable.rule, binding, premises))
         return False
 
     def leave_untried(self) -> None:
@@ -81,7 +81,7 @@ class Ways(Search):
                 citable = self.shelf.citable[number]
                 bound: Binding = {}
                 self.trees.match(citable.rule.tree, tree, bound)
-                self.cited(citable, tuple(bound[slot] for slot in citable.slots))
+                self.cited(citable, tuple(bound[each] for each in citable.variables))
                 yield from self.found
                 self.found.clear()
 
@@ -124,7 +124,7 @@ class Finder:
     def how(self, theorem: Rule, step: Step) -> str:
         """How a theorem says what a statement says that would prove it in one step."""
         rule, heads = self.rules[step.rule], self.rules.trees.heads
-        named = [tree for one, tree in zip(rule.given, step.trees) if one.is_floating]
+        named = [tree for one, tree in zip(rule.hypotheses, step.trees) if one.is_floating]
         if len({*named}) < len(named) or any(heads[tree] >= 0 for tree in named):
             return "instance"
         has_same_given = len({*step.premises}) == len({each.number for each in theorem.essential()})

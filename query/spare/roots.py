@@ -129,7 +129,7 @@ class Roots:
             left += shape.add(tree, next(iter(new.steps[tree])))
         shape.original.clear()  # the variables of another theorem
         variables = Variables(self.rules, below, own.scope, self.changer.seeker.active)
-        steps = shape.filled(dict.fromkeys(given), variables)
+        steps = shape.with_variables(dict.fromkeys(given), variables)
         return None if steps is None else Answer(steps, 0)
 
     def gains(self, number: int, answer: Answer) -> int:

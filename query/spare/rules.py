@@ -26,9 +26,9 @@ FORM = 2
 UNREAD = "{} formulas aren't read by the syntax axioms, so less may be found; the first is of {}"
 
 
-class Given(NamedTuple):
-    """A mandatory hypothesis: a `$f` with its variable, which `is_floating`, or a `$e` with its
-    tree."""
+class MandatoryHypothesis(NamedTuple):
+    """A `$f`, which `is_floating` and whose `number` is that of its variable, or a `$e`, whose
+    `number` is that of its tree."""
 
     is_floating: bool
     number: int
@@ -38,22 +38,22 @@ class Given(NamedTuple):
 @dataclass(slots=True)
 class Rule:
     """An assertion as a rule. `tree` is that of its formula, -1 where it can be no step of a proof
-    that is changed; `slots` are its mandatory variables, in the order of their hypotheses; `form`
-    is that of a syntax axiom. `is_logical` is whether its formula has the typecode of what is
-    proved."""
+    that is changed; `hypotheses` are its mandatory ones, and `mandatory_variables` those of its
+    `$f`, both in the order of the database; `form` is that of a syntax axiom. `is_logical` is
+    whether its formula has the typecode of what is proved."""
 
     number: int
     label: str
     is_logical: bool
     tree: int
-    given: list[Given]
-    slots: list[int]
+    hypotheses: list[MandatoryHypothesis]
+    mandatory_variables: list[int]
     form: int | None = None
     code: Code | None = field(default=None)
 
-    def essential(self) -> list[Given]:
+    def essential(self) -> list[MandatoryHypothesis]:
         """The `$e` hypotheses."""
-        return [each for each in self.given if not each.is_floating]
+        return [each for each in self.hypotheses if not each.is_floating]
 
 
 class Rules:
@@ -89,35 +89,37 @@ class Rules:
         frame = assertion.frame()
         given = frame.hypotheses()
         leaves = {}
-        slots = []
+        variables = []
         for each in given:
             if each.kind == "f":
                 typecode, symbol = each.formula.split(" ")
                 leaves[symbol] = self.grammar.variable(typecode, symbol)
-                slots.append(~self.trees.heads[leaves[symbol]])
+                variables.append(~self.trees.heads[leaves[symbol]])
         scope = "" if self._has_fixed_typecodes else " ".join(each.formula for each in given)
-        found = [self.given(assertion, each, leaves, scope) for each in given]
+        hypotheses = [self.hypothesis(assertion, each, leaves, scope) for each in given]
         is_logical = assertion.typecode == self.typecode_proved
-        rule = Rule(assertion.number, assertion.label, is_logical, -1, found, slots)
-        is_syntax = not is_logical and len(slots) == len(found) and not frame.disjoint
+        rule = Rule(assertion.number, assertion.label, is_logical, -1, hypotheses, variables)
+        has_only_floating = len(variables) == len(hypotheses)
+        is_syntax = not is_logical and has_only_floating and not frame.disjoint
         if is_syntax and assertion.kind == "a":
             rule.form = self.grammar.add(form_of(assertion, given))
-            parts = [self.trees.made((~slot,)) for slot in slots]
+            parts = [self.trees.made((~variable,)) for variable in variables]
             rule.tree = self.trees.made((rule.form, *parts))
         elif is_logical or is_syntax:
             rule.tree = self.parsed(assertion, assertion.formula, leaves, scope)
         return rule
 
-    def given(
+    def hypothesis(
         self, assertion: Assertion, one: Hypothesis, leaves: dict[str, int], scope: str
-    ) -> Given:
+    ) -> MandatoryHypothesis:
         """A mandatory hypothesis. A `$e` of the syntax has the tree -1."""
         if one.kind == "f":
             variable = ~self.trees.heads[leaves[one.formula.split(" ")[1]]]
-            return Given(True, variable, one.label)
+            return MandatoryHypothesis(True, variable, one.label)
         if one.formula.split(" ", 1)[0] != self.typecode_proved:
-            return Given(False, -1, one.label)
-        return Given(False, self.parsed(assertion, one.formula, leaves, scope), one.label)
+            return MandatoryHypothesis(False, -1, one.label)
+        tree = self.parsed(assertion, one.formula, leaves, scope)
+        return MandatoryHypothesis(False, tree, one.label)
 
     def parsed(self, assertion: Assertion, formula: str, leaves: dict[str, int], scope: str) -> int:
         """The tree of a formula of an assertion. One that has none by the syntax has a form of its
@@ -164,7 +166,7 @@ class Rules:
     def code(self, rule: Rule) -> Code:
         """The pattern of a rule's formula."""
         if rule.code is None:
-            rule.code = self.trees.code(rule.tree, rule.slots)
+            rule.code = self.trees.code(rule.tree, rule.mandatory_variables)
         return rule.code
 
     def scope(self, rule: Rule) -> Scope:
@@ -173,7 +175,7 @@ class Rules:
 
     def pairs(self, rule: Rule) -> list[tuple[int, int]]:
         """The pairs of a rule's variables that must be distinct."""
-        names = {self.grammar.variables[slot][1]: slot for slot in rule.slots}
+        names = {self.grammar.variables[each][1]: each for each in rule.mandatory_variables}
         frame = self.text.assertions[rule.number].frame()
         return [(names[one], names[other]) for one, other in frame.pairs()]
 
@@ -209,8 +211,8 @@ class Scope:
     of them are distinct."""
 
     def __init__(self, rules: Rules, rule: Rule) -> None:
-        self.labels = {each.number: each.label for each in rule.given if each.is_floating}
-        self.names = {rules.grammar.variables[slot][1]: slot for slot in rule.slots}
+        self.labels = {each.number: each.label for each in rule.hypotheses if each.is_floating}
+        self.names = {rules.grammar.variables[each][1]: each for each in rule.mandatory_variables}
         self.said = rules.text.assertions[rule.number].said
         self._apart: dict[int, int] | None = None
 

@@ -53,12 +53,12 @@ class Premise:
 
 @dataclass(slots=True)
 class Citable:
-    """A statement that may be cited. `slots` are the variables of its formula in the order of the
+    """A statement that may be cited. `variables` are those of its formula in the order of the
     index, `premises` its `$e`, first those that have no other variables, `keys` those of these, and
     `pairs` those of its variables that must be distinct."""
 
     rule: Rule
-    slots: list[int]
+    variables: list[int]
     premises: list[Premise]
     keys: list[Key | None]
     pairs: list[tuple[int, int]]
@@ -122,14 +122,14 @@ class Shelf:
 
     def add(self, rule: Rule) -> set[Key]:
         """Adds a statement. Returns the keys of its hypotheses."""
-        slots = self.index.add(rule.number, rule.tree)
+        variables = self.index.add(rule.number, rule.tree)
         essential = enumerate(each.number for each in rule.essential())
         premises = [self.premise(index, pattern) for index, pattern in essential]
-        bound = set(slots)
+        bound = set(variables)
         premises.sort(key=lambda each: not each.variables <= bound)
         keys = [each.key for each in premises]
         pairs = self.rules.pairs(rule)
-        self.citable[rule.number] = Citable(rule, slots, premises, keys, pairs)
+        self.citable[rule.number] = Citable(rule, variables, premises, keys, pairs)
         return {key for key in keys if key is not None}
 
     def premise(self, index: int, pattern: int) -> Premise:
@@ -296,13 +296,13 @@ class Search:
     def cited(self, citable: Citable, bound: tuple[int, ...]) -> Step | None:
         """The step in which a statement is cited; None where a premise isn't free, or variables
         aren't distinct."""
-        binding = dict(zip(citable.slots, bound))
+        binding = dict(zip(citable.variables, bound))
         self.left = MOST_TRIED
         self.budget.take(len(citable.premises) + len(citable.pairs))
         premises: list[int] = [-1] * len(citable.premises)
         if not self.has_premises(citable, citable.premises, binding, premises):
             return None
-        return step_of(citable, binding, premises)
+        return step_of(citable.rule, binding, premises)
 
     def is_enough(self, citable: Citable, binding: Binding, premises: list[int]) -> bool:
         """Whether this step is taken, where there may be others with the same statement."""
@@ -371,10 +371,12 @@ class Search:
             found = self.shelf.index.find(tree, self.wanted_closed, self.flags, self.budget)
             for number, bound in found:
                 citable = self.shelf.citable[number]
-                filled = dict(zip(citable.slots, bound))
+                filled = dict(zip(citable.variables, bound))
                 if not citable.premises and self.keeps_distinct(citable, filled):
                     self.new[tree] = True
-                    self.free.add(tree, step_of(citable, filled, []), keys_for(self.trees, tree))
+                    self.free.add(
+                        tree, step_of(citable.rule, filled, []), keys_for(self.trees, tree)
+                    )
                     break
         return (tree,) if self.new[tree] else ()
 
@@ -424,7 +426,7 @@ class AllSteps(Search):
     def is_enough(self, citable: Citable, binding: Binding, premises: list[int]) -> bool:
         """Notes a step, and goes on."""
         if self.tree not in premises:
-            self.steps[self.tree][step_of(citable, binding, premises)] = None
+            self.steps[self.tree][step_of(citable.rule, binding, premises)] = None
         return False
 
     def doing_without(self, axioms: int) -> dict[int, dict[Step, None]]:
@@ -495,10 +497,10 @@ def distinct(
     return True
 
 
-def step_of(citable: Citable, binding: Binding, premises: list[int]) -> Step:
-    """The step in which a statement is cited."""
-    filled = iter(premises)
-    trees = tuple(
-        binding[each.number] if each.is_floating else next(filled) for each in citable.rule.given
+def step_of(rule: Rule, binding: Mapping[int, int], premises: Sequence[int]) -> Step:
+    """The step in which a statement is cited, with these trees for its variables and its `$e`."""
+    essential = iter(premises)
+    trees = (
+        binding[each.number] if each.is_floating else next(essential) for each in rule.hypotheses
     )
-    return Step(citable.rule.number, trees, tuple(premises))
+    return Step(rule.number, tuple(trees), tuple(premises))

@@ -12,8 +12,8 @@ from dataclasses import dataclass
 from query.spare.index import Budget, GivenUp
 from query.spare.proofs import Step
 from query.spare.rules import Rule, Rules
-from query.spare.search import Steps, distinct
-from query.spare.unknowns import Nodes, Slots
+from query.spare.search import Steps, distinct, step_of
+from query.spare.unknowns import Nodes, NodesOfVariables
 from query.spare.variables import Variables
 
 STEPS = 300_000
@@ -26,7 +26,7 @@ class Cited:
     premises were, as far as they aren't known."""
 
     rule: Rule
-    slots: Slots
+    node_of_variable: NodesOfVariables
     below: list[int]
 
 
@@ -41,6 +41,7 @@ class Shape:
         self.nodes = Nodes(rules.trees, rules.grammar)
         self.budget = Budget(STEPS)
         self.node_of = {formula: self.nodes.of(goal)}
+        """For formulas that aren't known what has to be proved in their place."""
         self.cited: dict[int, Cited] = {}
         """By which statement each formula is that isn't known."""
         self.original: list[tuple[int, int]] = []
@@ -48,13 +49,14 @@ class Shape:
         self.instead: dict[int, int] = {}
         """For each formula that is proved so the one in whose place it stands."""
 
-    def instance(self, pattern: int, slots: Slots) -> int:
-        """The node of a pattern."""
+    def instance(self, pattern: int, node_of_variable: NodesOfVariables) -> int:
+        """The node of a pattern, with these nodes for its variables. Variables that have none get
+        unknowns."""
         if pattern < 0:
             raise GivenUp
         code = self.rules.trees.open_code(pattern)
         self.budget.take(len(code))
-        return self.nodes.instance(code, slots)
+        return self.nodes.instance(code, node_of_variable)
 
     def equal(self, one: int, other: int) -> None:
         """Makes two nodes equal. GivenUp where they can't be."""
@@ -65,14 +67,13 @@ class Shape:
         """Adds a step by which a formula is proved. Returns those of its premises that aren't known
         and are met for the first time. GivenUp where the goal can't be proved so."""
         rule = self.rules[step.rule]
-        slots: Slots = {}
-        self.cited[tree] = cited = Cited(rule, slots, [])
-        self.equal(self.instance(rule.tree, slots), self.node_of[tree])
+        cited = self.cited[tree] = Cited(rule, {}, [])
+        self.equal(self.instance(rule.tree, cited.node_of_variable), self.node_of[tree])
         met: list[int] = []
-        for one, entry in zip(rule.given, step.trees):
+        for one, entry in zip(rule.hypotheses, step.trees):
             if one.is_floating:
                 continue
-            premise = self.instance(one.number, slots)
+            premise = self.instance(one.number, cited.node_of_variable)
             if entry in self.known:
                 self.equal(premise, self.nodes.of(self.known[entry]))
                 continue
@@ -82,30 +83,31 @@ class Shape:
             else:
                 self.node_of[entry] = premise
                 met.append(entry)
-        for one, entry in zip(rule.given, step.trees):
+        for one, entry in zip(rule.hypotheses, step.trees):
             if one.is_floating:
-                self.original.append((slots[one.number], entry))
+                self.original.append((cited.node_of_variable[one.number], entry))
         return met
 
-    def filled(self, given: Steps, variables: Variables) -> Steps | None:
-        """The proof, beside what is given, when variables stand in place of all that is unknown;
-        None where it isn't one."""
+    def with_variables(self, begun: Steps, variables: Variables) -> Steps | None:
+        """The proof with variables in place of all that is unknown, after the steps with which it
+        has begun; None where it isn't one."""
         order = self.in_order()
         if order is None:
             return None
         unknown: dict[int, None] = {}
         for tree in order:
-            for node in self.cited[tree].slots.values():
+            for node in self.cited[tree].node_of_variable.values():
                 found = self.nodes.left(node)
                 self.budget.take(1 + len(found))
                 unknown.update(dict.fromkeys(found))
-        known: dict[int, int] = {}
+        tree_of_unknown: dict[int, int] = {}
         for node, tree in self.original:
             if self.nodes.find(node) in unknown:
-                known.setdefault(self.nodes.find(node), tree)
-        kinds = {each: self.nodes.kinds[each] or "" for each in unknown if each not in known}
-        for filled in variables.filled(kinds):
-            steps = self.made(order, {**known, **filled}, given, variables)
+                tree_of_unknown.setdefault(self.nodes.find(node), tree)
+        left = [each for each in unknown if each not in tree_of_unknown]
+        kinds = {each: self.nodes.kinds[each] or "" for each in left}
+        for chosen in variables.choices(kinds):
+            steps = self.steps_with({**tree_of_unknown, **chosen}, order, begun, variables)
             if steps is not None:
                 return steps
         return None
@@ -129,23 +131,24 @@ class Shape:
                 left += cited.below
         return list(done)
 
-    def made(
+    def steps_with(
         self,
+        tree_of_unknown: Mapping[int, int],
         order: Sequence[int],
-        filled: Mapping[int, int],
-        given: Steps,
+        begun: Steps,
         variables: Variables,
     ) -> Steps | None:
-        """The steps of the proof, with these trees for what is unknown; None where a part isn't
+        """The steps of the proof, with these trees for what is unknown: those with which it has
+        begun, and for the formulas in this order what is cited for them. None where a part isn't
         known, or variables aren't distinct."""
-        steps = dict(given)
+        steps = dict(begun)
         self.instead = {}
         instance, code = self.rules.trees.instance, self.rules.trees.open_code
         for old in order:
             cited = self.cited[old]
             binding: dict[int, int] = {}
-            for variable, node in cited.slots.items():
-                tree = self.nodes.tree(node, filled)
+            for variable, node in cited.node_of_variable.items():
+                tree = self.nodes.tree(node, tree_of_unknown)
                 if tree is None:
                     return None
                 binding[variable] = tree
@@ -156,13 +159,6 @@ class Shape:
             premises = [instance(code(one.number), binding) for one in cited.rule.essential()]
             tree = instance(code(cited.rule.tree), binding)
             if tree not in steps:
-                steps[tree] = step_with(cited.rule, binding, premises)
+                steps[tree] = step_of(cited.rule, binding, premises)
                 self.instead[tree] = old
         return steps
-
-
-def step_with(rule: Rule, binding: Mapping[int, int], premises: Sequence[int]) -> Step:
-    """The step in which a statement is cited."""
-    filled = iter(premises)
-    trees = tuple(binding[each.number] if each.is_floating else next(filled) for each in rule.given)
-    return Step(rule.number, trees, tuple(premises))

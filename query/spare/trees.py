@@ -73,9 +73,9 @@ class Trees:
                 known[one] |= known[part]
         return known[tree]
 
-    def code(self, tree: int, slots: Sequence[int]) -> Code:
-        """The pattern that a tree is, whose variables are those of the slots."""
-        slot_of = {variable: slot for slot, variable in enumerate(slots)}
+    def code(self, tree: int, variables: Sequence[int]) -> Code:
+        """The pattern that a tree is, with a slot for each of these variables, in their order."""
+        slot_of = {variable: slot for slot, variable in enumerate(variables)}
         return tuple(
             (~slot_of[~head], SLOT) if head < 0 else (head, count)
             for head, count in self.open_code(tree)

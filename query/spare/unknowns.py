@@ -22,7 +22,7 @@ UNKNOWN = -(1 << 62)
 WHOLE = -1
 """Stands for the tree of a node that isn't known to be one."""
 
-Slots = dict[int, int]
+NodesOfVariables = dict[int, int]
 """For variables of a statement the nodes that stand for them."""
 
 
@@ -61,15 +61,15 @@ class Nodes:
         """A new unknown."""
         return self.add(UNKNOWN, kind, (), WHOLE)
 
-    def instance(self, code: Code, slots: Slots) -> int:
+    def instance(self, code: Code, node_of_variable: NodesOfVariables) -> int:
         """A pattern, as `open_code` has it, with these nodes for its variables. Variables that have
         none get unknowns."""
         stack: list[int] = []
         for head, count in code:
             if count < 0:
-                if ~head not in slots:
-                    slots[~head] = self.unknown(self.grammar.variables[~head][0])
-                stack.append(slots[~head])
+                if ~head not in node_of_variable:
+                    node_of_variable[~head] = self.unknown(self.grammar.variables[~head][0])
+                stack.append(node_of_variable[~head])
                 continue
             parts = tuple(stack[len(stack) - count :])
             del stack[len(stack) - count :]
@@ -136,7 +136,7 @@ class Nodes:
                 stack += reversed(self.parts_of(one))
         return list(found)
 
-    def tree(self, node: int, filled: Mapping[int, int]) -> int | None:
+    def tree(self, node: int, tree_of_unknown: Mapping[int, int]) -> int | None:
         """The tree that a node is, with these trees for unknowns. None where one isn't among them,
         or the node is a part of itself."""
         done: dict[int, int] = {}
@@ -150,9 +150,9 @@ class Nodes:
             if self.whole[one] >= 0:
                 done[one] = self.whole[one]
             elif self.heads[one] == UNKNOWN:
-                if one not in filled:
+                if one not in tree_of_unknown:
                     return None
-                done[one] = filled[one]
+                done[one] = tree_of_unknown[one]
             elif one in begun:
                 parts = (done[self.find(part)] for part in self.parts_of(one))
                 done[one] = self.trees.made((self.heads[one], *parts))

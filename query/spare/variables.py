@@ -8,7 +8,7 @@ from itertools import islice, permutations, product
 from query.spare.active import Active
 from query.spare.rules import Rule, Rules, Scope
 
-MOST_FILLED = 200
+MOST_CHOICES = 200
 """So many ways are tried of putting variables in place of unknown ones."""
 
 
@@ -46,9 +46,9 @@ class Variables:
             for variable in named:
                 self._apart[variable] = self._apart.get(variable, 0) | bits & ~(1 << variable)
 
-    def filled(self, kinds: Mapping[int, str]) -> Iterator[dict[int, int]]:
+    def choices(self, kinds: Mapping[int, str]) -> Iterator[dict[int, int]]:
         """The ways of putting variables in place of unknown parts of these typecodes, another one
-        in each place; at most MOST_FILLED."""
+        in each place; at most MOST_CHOICES. Each says for the unknown parts which tree."""
         if not kinds:
             yield {}
             return
@@ -57,11 +57,11 @@ class Variables:
         for one, kind in kinds.items():
             by_kind.setdefault(kind, []).append(one)
         ways = [
-            islice(permutations(self.pool(kind), len(several)), MOST_FILLED)
+            islice(permutations(self.pool(kind), len(several)), MOST_CHOICES)
             for kind, several in by_kind.items()
         ]
         places = [one for several in by_kind.values() for one in several]
-        for chosen in islice(product(*ways), MOST_FILLED):
+        for chosen in islice(product(*ways), MOST_CHOICES):
             yield dict(zip(places, (tree for trees in chosen for tree in trees), strict=True))
 
     def pool(self, kind: str) -> list[int]:
@@ -71,6 +71,6 @@ class Variables:
         variables = self.rules.grammar.variables
         found = [each for each in self.scope.labels if variables[each][0] == kind]
         if all(form.typecode != kind for form in self.rules.grammar.forms):
-            own = {*self.theorem.slots}
+            own = {*self.theorem.mandatory_variables}
             found.sort(key=lambda each: (each in own, not self.apart(each)))
         return [self.rules.trees.made((~each,)) for each in found]

@@ -50,7 +50,7 @@ class Writing:
     def words(self) -> tuple[list[str], str]:
         """The labels and the letters."""
         root = ~self.proof.root
-        given = [each.label for each in self.theorem.given]
+        given = [each.label for each in self.theorem.hypotheses]
         uses = dict.fromkeys(given, 0)
         for item in self.ordered(root):
             node = self.nodes[item]
@@ -63,7 +63,7 @@ class Writing:
         """The labels, given in the order of their first use, as metamath.exe orders them; but where
         it would have ordered those of the old proof otherwise, these as they were, and then the
         others."""
-        old, old_uses = named(self.proof.words, len(self.theorem.given))
+        old, old_uses = named(self.proof.words, len(self.theorem.hypotheses))
         if not old or self.saved(list(old_uses), old_uses) == old:
             return self.saved(labels, uses)
         kept = [label for label in old if label in uses]
@@ -73,7 +73,7 @@ class Writing:
         """The labels as metamath.exe orders them."""
         floating = self.writer.rules.floating
         labels = sorted(labels, key=lambda label: label not in floating)
-        return saved_order(labels, uses, len(self.theorem.given), self.room)
+        return saved_order(labels, uses, len(self.theorem.hypotheses), self.room)
 
     def ordered(self, root: Item) -> list[Item]:
         """All items, parts before what is made of them, and how often each is used."""
@@ -109,7 +109,7 @@ class Writing:
             binding: dict[int, int] = {}
             if rule.form is None and rule.number < self.theorem.number:
                 if rules.trees.match(rule.tree, item, binding) is not None:
-                    return Made(rule.label, [binding[slot] for slot in rule.slots])
+                    return Made(rule.label, [binding[each] for each in rule.mandatory_variables])
         label = rules.grammar.forms[head].label
         assert label is not None
         return Made(label, list(rules.trees.parts[item]))
@@ -117,8 +117,8 @@ class Writing:
     def citation(self, step: Step) -> Made:
         """How a citation is made."""
         rule = self.writer.rules[step.rule]
-        parts = [tree if one.is_floating else ~tree for one, tree in zip(rule.given, step.trees)]
-        return Made(rule.label, parts)
+        pairs = zip(rule.hypotheses, step.trees)
+        return Made(rule.label, [tree if one.is_floating else ~tree for one, tree in pairs])
 
 
 def named(words: Sequence[str], first: int) -> tuple[list[str], dict[str, int]]:

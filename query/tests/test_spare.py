@@ -355,7 +355,7 @@ def cited_wrongly(
     self: search.Search, citable: search.Citable, bound: tuple[int, ...]
 ) -> proofs.Step | None:
     """A step in which another formula stands for the variables."""
-    trees = tuple(self.proof.root for _ in citable.rule.given)
+    trees = tuple(self.proof.root for _ in citable.rule.hypotheses)
     return proofs.Step(citable.rule.number, trees, ())
 
 
