@@ -17,7 +17,9 @@ from query.spare.unknowns import Nodes, NodesOfVariables
 from query.spare.variables import Variables
 
 STEPS = 300_000
-"""So many steps are taken for one shape, as the search counts them."""
+"""So many steps are taken for one shape, about one for each node that is made or compared; with
+more it is given up. They take 0.3 seconds of the processor, where formulas of 1,000 forms are made
+and compared. Another number finds other proofs: whoever changes it counts `FORM` of kept.py up."""
 
 
 @dataclass(slots=True)
