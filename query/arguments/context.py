@@ -52,7 +52,8 @@ class Context:
         passes = self.test()
         left = [row for row in rows if passes(str(row[column]))]
         if rows and not left:
-            self.tell(f"none of the {len(rows)} that there are passes the filters")
+            given = self.filters.in_words().removeprefix(" among what passes")
+            self.tell(f"none of the {len(rows)} that there are passes the filters{given}")
         return left
 
     def first(

@@ -10,9 +10,10 @@ An assertion is listed where it passes each filter that is given. By an example:
 from __future__ import annotations
 
 import argparse
+import difflib
 import os
 import re
-from collections.abc import Callable
+from collections.abc import Callable, Sequence
 from dataclasses import dataclass
 from fnmatch import fnmatchcase
 from typing import TYPE_CHECKING
@@ -30,6 +31,16 @@ Test = Callable[[str], bool]
 YEAR = re.compile(r"[0-9]{4}")
 FIRST_DAY, LAST_DAY = "0001-01-01", "9999-12-31"
 """The first and the last day that a comment can name."""
+OPTIONS = {"unlike": "--not"}
+"""The options of filters that have another name."""
+MOST_NEAR = 5
+"""So many headers are named where it isn't clear which one is meant."""
+LONG_TITLE = 100
+"""Longer titles are cut in a message, and aren't looked for among near ones."""
+MOST_COMPARED = 5000
+"""With so many titles a word is compared that none has."""
+NUMBER = re.compile(r"[0-9.]+")
+"""What is only the number of a header."""
 
 
 @dataclass(frozen=True)
@@ -54,6 +65,15 @@ class Filters:
     def are_given(self) -> bool:
         """Whether there is one."""
         return self != Filters()
+
+    def in_words(self) -> str:
+        """The filters that are given, as the end of a sentence; "" where there is none."""
+        given = [
+            f"{OPTIONS.get(name, '--' + name.replace('_', '-'))} {words_of_filter(value)}".strip()
+            for name, value in vars(self).items()
+            if value not in (None, False, ())
+        ]
+        return shown(f" among what passes {' '.join(given)}") if given else ""
 
     def test(self, database: Database) -> Test:
         """Whether a label passes. NoAnswer where a filter names what isn't there, or needs the text
@@ -126,6 +146,14 @@ class Filters:
         return [is_theirs]
 
 
+def words_of_filter(value: str | bool | tuple[str, ...]) -> str:
+    """What is given for a filter, as it is typed."""
+    if isinstance(value, bool):
+        return ""
+    word = value if isinstance(value, str) else ",".join(value)
+    return f"'{word}'" if set(word) & {*" *?"} else word
+
+
 def labels_in(path: str) -> set[str]:
     """The labels that a file has. NoAnswer where it can't be read."""
     return {word for _, word in words_in(os.fspath(path))}
@@ -137,22 +165,44 @@ def outside(labels: set[str]) -> Test:
 
 
 def header_of(text: Text, name: str, wanted: str, level: int | None = None) -> Header:
-    """The header of a number or a title, of this level if one of those is. NoAnswer where no header
-    has it, or several have the title."""
+    """The header of a number, of a title, or of a part of a title that no other one has; of this
+    level if one of those is. NoAnswer where none has it, or several have."""
+    title = plain_title(wanted)
+    titles = {plain_title(header.title): header for header in reversed(text.headers)}
     found = [header for header in text.headers if header.number == wanted]
-    found = found or [header for header in text.headers if is_titled(header, wanted)]
-    found = [header for header in found if header.level == level] or found
+    what = "the title"
     if not found:
-        raise NoAnswer(f"{name}: has no header '{shown(wanted)}'; `mmquery chapters` lists them")
-    if len(found) > 1:
-        numbers = ", ".join(header.number for header in found)
-        raise NoAnswer(f"{name}: several headers have the title '{shown(wanted)}': {numbers}")
-    return found[0]
+        found = [header for header in text.headers if plain_title(header.title) == title]
+    if not found and title and not NUMBER.fullmatch(wanted):
+        found = [header for header in text.headers if title in plain_title(header.title)]
+        what = "in the title"
+    found = [header for header in found if header.level == level] or found
+    if len(found) == 1:
+        return found[0]
+    if found:
+        raise NoAnswer(f"{name}: several headers have {what} '{shown(wanted)}': {listed(found)}")
+    short = [each for each in titles if len(each) < LONG_TITLE][:MOST_COMPARED]
+    near = difflib.get_close_matches(title[:LONG_TITLE], short, MOST_NEAR)
+    meant = f"; near it are {listed([titles[each] for each in near])}" if near else ""
+    meant = meant or "; `mmquery chapters` lists them"
+    raise NoAnswer(f"{name}: has no header '{shown(wanted)}'{meant}")
 
 
-def is_titled(header: Header, title: str) -> bool:
-    """Whether a header has this title, but for capitals and spaces."""
-    return header.title.casefold().split() == title.casefold().split()
+def plain_title(title: str) -> str:
+    """A title without capitals, and with one space between its words."""
+    return " ".join(title.casefold().split())
+
+
+def listed(headers: Sequence[Header]) -> str:
+    """The first of some headers, by numbers and titles."""
+    names = [f"{each.number} '{cut(each.title)}'" for each in headers[:MOST_NEAR]]
+    more = len(headers) - len(names)
+    return shown(", ".join(names)) + (f" and {more} more" if more else "")
+
+
+def cut(title: str) -> str:
+    """A title that is no longer than a line of a message has room for."""
+    return title if len(title) < LONG_TITLE else f"{title[:LONG_TITLE]}.."
 
 
 def mathboxes_of(text: Text, name: str, owner: str) -> frozenset[int]:
@@ -204,7 +254,7 @@ def add_filters(parser: Parser) -> None:
     parser.value("--after", "T", "only what stands after T", group=group)
     parser.flag("--main", "only what stands in no mathbox", group=group)
     parser.value("--mathbox", "NAME", "only what stands in NAME's mathbox", group=group)
-    under = "only what the header of this number or title has below it"
+    under = "only what the header of this number, title or part of a title has below it"
     parser.value("--under", "HEADER", under, group=group)
     like = "only labels like PATTERN, in which * is anything; several: by commas"
     parser.values("--like", "PATTERN", like, group=group)

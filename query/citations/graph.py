@@ -131,6 +131,22 @@ class Graph:
                 found.add(theorem)
         return found
 
+    def resting(self, nodes: Iterable[int]) -> list[int]:
+        """For each theorem on which of these nodes it rests, as the bits of a number: the lowest is
+        that of the first node. No theorem rests on itself."""
+        carried = [0] * len(self.labels)
+        for place, node in enumerate(nodes):
+            carried[node] |= 1 << place
+        found = [0] * self.theorems
+        places, targets = self.cites.places, self.cites.targets
+        for theorem in range(self.theorems):
+            bits = 0
+            for cited in targets[places[theorem] : places[theorem + 1]]:
+                bits |= carried[cited]
+            found[theorem] = bits
+            carried[theorem] |= bits
+        return found
+
     def distances(self, end: int, theorems: Iterable[int] | None = None) -> dict[int, int]:
         """For each node that rests on this one, how many citations a shortest chain to it has; 0
         for the node itself. Of other theorems than those given, which rise, it says nothing.

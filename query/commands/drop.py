@@ -1,11 +1,13 @@
-"""`drop`: whether theorems may be dropped, and what is in the way."""
+"""`drop`: whether theorems, or all below a header, may be dropped, and what is in the way."""
 
 import argparse
-from collections.abc import Iterable, Mapping, Sequence
+from collections.abc import Collection, Iterable, Iterator, Mapping, Sequence
+from dataclasses import dataclass
 
 from query.answers.errors import NoAnswer, shown
 from query.answers.output import Value
 from query.arguments.context import Context
+from query.arguments.filters import header_of, listed
 from query.arguments.label_files import labels_like
 from query.arguments.options import (
     Parser,
@@ -14,10 +16,13 @@ from query.arguments.options import (
     options_of,
 )
 from query.citations.graph import Graph
+from query.citations.symbols import symbols_of
 from query.commands import Command
+from query.platform import progress
+from query.reports.database import Database
 from query.texts.discouraged import is_discouraged, is_proof_discouraged
-from query.texts.named import names_in
-from query.texts.text import Text
+from query.texts.named import Named, names_in
+from query.texts.text import HEADING_START, Text
 
 PAGE = """
 Tells which of the LABELs, which are theorems, may be dropped: the most of them that may go
@@ -31,11 +36,18 @@ marks    the lines of the $j comments that name it
 remarks  the lines on which comments say ~ LABEL, which have to be changed then
 kept     what its own comment discourages, usage or proof: it may be there on purpose
 
+With --under HEADER also all that this header has below it, by its number, title or part of a title:
+axioms too, so that a chapter can be dropped whole. A rule of syntax stays also where an axiom or a
+theorem stays whose formulas have a constant that only rules of syntax have which are to be dropped;
+then cited has that one. The constants and variables that are declared there stay in any case.
+Comments that stand below the header go with it, and aren't in the way.
+
 A LABEL may be a pattern, in which * is anything and ? any character: then it is each theorem like
 that. `uncited` lists what nobody cites, and `falls` all theorems that rest on a label.
 
   $ mmquery drop set.mm idALT
   $ mmquery drop set.mm zorn '*OLD'
+  $ mmquery drop set.mm --under 'hilbert space explorer'
 """
 
 COLUMNS = ("label", "drop", "cited", "marks", "remarks", "kept")
@@ -44,7 +56,9 @@ COLUMNS = ("label", "drop", "cited", "marks", "remarks", "kept")
 def configure(parser: Parser) -> None:
     """Adds the words and options."""
     add_database(parser)
-    parser.add_argument("labels", metavar="LABEL", nargs="+")
+    parser.add_argument("labels", metavar="LABEL", nargs="*")
+    under = "also all axioms and theorems that the header of this number or title has below it"
+    parser.value("--under", "HEADER", under)
     add_choice_of_citations(parser)
 
 
@@ -52,16 +66,12 @@ def run(context: Context, arguments: argparse.Namespace) -> int:
     """Answers."""
     database = context.database(arguments.database, options_of(arguments))
     graph, text = database.graph(), database.text
-    theorems = (one.label for one in text.assertions if one.kind == "p")
-    labels = labels_like(arguments.labels, [*theorems], database.name)
-    for label in labels:
-        if database.assertion(label).kind == "a":
-            raise NoAnswer(
-                f"{database.name}: '{shown(label)}' is an axiom, and drop is of theorems"
-            )
-    named = names_in(text.data, labels)
-    citing = graph.citing([graph.node(label) for label in labels])
-    stays = staying(graph, citing, [graph.node(label) for label in labels if named[label].marks])
+    labels = labels_of(database, arguments)
+    progress.now(f"searching what cites {len(labels)} labels")
+    named = named_outside(database, arguments, labels)
+    uses = Uses(graph, symbols_of(text, {*labels}))
+    citing = uses.of([graph.node(label) for label in labels])
+    stays = uses.staying(citing, [graph.node(label) for label in labels if named[label].marks])
     rows: list[list[Value]] = []
     for label, (node, users) in zip(labels, citing.items(), strict=True):
         one = text.by_label[label]
@@ -74,18 +84,86 @@ def run(context: Context, arguments: argparse.Namespace) -> int:
     return 1 if stays else 0
 
 
-def staying(graph: Graph, citing: Mapping[int, Sequence[int]], marked: Iterable[int]) -> set[int]:
-    """Which of the nodes of `citing`, each with the theorems that cite it, can't be dropped: the
-    marked ones, those that another theorem cites, and all that these cite in turn."""
-    found = {node for node, users in citing.items() if not citing.keys() >= {*users}}
-    found.update(marked)
-    left = list(found)
-    while left:
-        for cited in graph.cites[left.pop()]:
-            if cited in citing and cited not in found:
-                found.add(cited)
-                left.append(cited)
-    return found
+def named_outside(
+    database: Database, arguments: argparse.Namespace, labels: Sequence[str]
+) -> dict[str, Named]:
+    """Where comments name what is to be dropped, but for those that stand below the header."""
+    text = database.text
+    named = names_in(text.data, labels)
+    if arguments.under is None:
+        return named
+    header = header_of(text, database.name, arguments.under)
+    if header.first == header.end:
+        return named
+    start = text.assertions[header.first - 1].end if header.first else 0
+    behind = HEADING_START.search(text.data, text.assertions[header.end - 1].end)
+    end = behind.start() if behind else text.assertions[header.end - 1].end
+    for each in named.values():
+        each.remarks = [place for place in each.remarks if not start <= place < end]
+        each.marks = [place for place in each.marks if not start <= place < end]
+    return named
+
+
+def labels_of(database: Database, arguments: argparse.Namespace) -> list[str]:
+    """What is to be dropped: the LABELs, and what stands below a header. NoAnswer where a LABEL is
+    no theorem, or there is none."""
+    text = database.text
+    theorems = (one.label for one in text.assertions if one.kind == "p")
+    labels = labels_like(arguments.labels, [*theorems], database.name)
+    for label in labels:
+        if database.assertion(label).kind == "a":
+            raise NoAnswer(
+                f"{database.name}: '{shown(label)}' is an axiom, and drop is of theorems, or with"
+                " --under of all below a header"
+            )
+    if arguments.under is not None:
+        header = header_of(text, database.name, arguments.under)
+        below = text.assertions[header.first : header.end]
+        if not below and not labels:
+            raise NoAnswer(f"{database.name}: nothing stands below {listed([header])}")
+        labels += [one.label for one in below]
+    if not labels:
+        raise NoAnswer("drop wants a LABEL, or --under HEADER, of which it takes all labels")
+    return [*dict.fromkeys(labels)]
+
+
+@dataclass(frozen=True)
+class Uses:
+    """What uses what: `graph` has citations, and `symbols` for each assertion the rules of syntax
+    of its constants, as far as they matter."""
+
+    graph: Graph
+    symbols: Mapping[str, Collection[str]]
+
+    def of(self, nodes: Sequence[int]) -> dict[int, list[int]]:
+        """For each of these nodes those that use it."""
+        citing = self.graph.citing(nodes)
+        for label, rules in self.symbols.items():
+            user = self.graph.index[label]
+            for rule in rules:
+                users = citing[self.graph.index[rule]]
+                if user not in users[-1:]:
+                    users.append(user)
+        return {node: [*dict.fromkeys(users)] for node, users in citing.items()}
+
+    def used(self, node: int) -> Iterator[int]:
+        """What a node uses."""
+        yield from self.graph.cites[node]
+        for rule in self.symbols.get(self.graph.labels[node], ()):
+            yield self.graph.index[rule]
+
+    def staying(self, citing: Mapping[int, Sequence[int]], marked: Iterable[int]) -> set[int]:
+        """Which of the nodes of `citing`, each with those that use it, can't be dropped: the marked
+        ones, those that another one uses, and all that these use in turn."""
+        found = {node for node, users in citing.items() if not citing.keys() >= {*users}}
+        found.update(marked)
+        left = list(found)
+        while left:
+            for used in self.used(left.pop()):
+                if used in citing and used not in found:
+                    found.add(used)
+                    left.append(used)
+        return found
 
 
 def lines(text: Text, places: Iterable[int]) -> list[str]:

@@ -227,6 +227,7 @@ class Database:
             self.known = (
                 of_report(self.source) if self.is_report else self.kept or self.of_program()
             )
+            progress.now(f"working on {self.name}")
         return self.known
 
     @cached_property
@@ -262,7 +263,6 @@ class Database:
             raise NoAnswer(f"{self.name}: {why}") from None
         if self.uses_cache:
             cache.store(self.key, to_parts(found))
-        progress.now(f"working on {self.name}")
         return found
 
     def counts(self) -> tuple[int, int]:

@@ -92,7 +92,8 @@ class OfComments(World):
             for option in ("--since", "--until"):
                 self.refuses("unfinished", "db.mm", f"{option}={word}", why="is no year as 2014")
         none = self.query("unfinished", "db.mm", "--since=2016")
-        self.assertEqual(none.err, "mmquery: none of the 6 that there are passes the filters\n")
+        said = "none of the 6 that there are passes the filters --since 2016-01-01"
+        self.assertEqual(none.err, f"mmquery: {said}\n")
 
 
 class Filtered(World):
@@ -207,7 +208,8 @@ class Filtered(World):
             (["--mathbox", "Cy"], "has no mathbox for 'Cy'"),
             (["--mathbox", "bo"], "did you mean Bo?"),
             (["--under", "7"], "has no header '7'"),
-            (["--under", "Mathbox for"], "has no header 'Mathbox for'"),
+            (["--under", "Mathbox to"], "has no header 'Mathbox to'"),
+            (["--under", "Mathbox for"], "several headers have in the title 'Mathbox for': 0.2 '"),
             (["--among", "nothing"], "nothing: no such file"),
             (["--after", "sixx"], "has no assertion 'sixx'; did you mean six?"),
             (["--not-among", "nothing"], "nothing: no such file"),
@@ -230,9 +232,9 @@ class Filtered(World):
             one = f"{head}a1 $a a $.\none $p a $= a1 $.\n"
             self.write("db.mm", f"$c a $.\n{one}{head}two $p a $= a1 $.\n")
             self.assertEqual(self.answers("uncited", "db.mm", "--under", *words), left)
-        self.refuses("uncited", "db.mm", "--under", "same", why="the title 'same': 0.1, 0.2")
+        self.refuses("uncited", "db.mm", "--under", "same", why="the title 'same': 0.1 'Same'")
 
     def test_nothing_passes(self) -> None:
         done = self.query("uncited", "--open", "db.mm", "--like", "x*")
         self.assertEqual((done.out, done.status), ("", 0))
-        self.assertIn("none of the 3 that there are passes the filters", done.err)
+        self.assertIn("none of the 3 that there are passes the filters --like 'x*'", done.err)
