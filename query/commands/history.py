@@ -42,7 +42,8 @@ With --faults, only the revisions at which a fault began or ended, or became ano
 before. Where a row has no fault, one has ended.
 
 With --of T, what became of the statement T, an axiom or a theorem: only the revisions that changed
-it, and those at which a fault began or ended.
+it, those at which it came to rest on an axiom or no longer does, and those at which a fault began
+or ended. So no AXIOM has to be named to find since when, and by whom, T rests on one.
 
 rev, date, fault, author, subject   the same
 theorem  its label there
@@ -51,12 +52,16 @@ change   there:   the first revision of the range has it already
          changed: it says something else now
          renamed: it has another label now
          proof:   it says the same, and its proof is another one
+         below:   its proof is the same, but it rests on other axioms than before, by another proof
+                  of something that it rests on
          gone:    it isn't there any more
 was      for `renamed` the label that it had before
 differ, old, new   for `changed` in what both statements differ, and both, as `compare` tells them
+gained, lost   the axioms of typecode |- on which it came to rest with this revision, and those on
+         which it no longer rests, beside the last sound revision before
 
-With --of T and AXIOM.., the theorem's answers: only the revisions at which one changed, or a fault
-began or ended, or the statement or its label changed, and the first one:
+With --of T and AXIOM.., of any typecode, the theorem's answers: only the revisions at which one
+changed, or a fault began or ended, or the statement or its label changed, and the first one:
 
 axiom    which AXIOM; none in a row about the statement
 rests    whether the theorem rests on the axiom; none where there is no theorem T
@@ -74,16 +79,18 @@ is known of a file is kept; each other one takes as long as a first question.
   $ mmquery history set.mm v1..main ax-ac2 ax-reg
   $ mmquery history set.mm v1..main --faults
   $ mmquery history set.mm main --of zorn
+  $ mmquery history set.mm main --of zorn --format json
   $ mmquery history set.mm v1..main ax-ac2 --of zorn
   $ mmquery history ~/set.mm/set.mm v1..main ax-ac2
 """
 
 COLUMNS = ("rev", "date", "theorems", "axiom", "rest", "fault", "author", "subject")
 OF_AXIOMS = ("axiom", "rests")
-OF_STATEMENT = ("change", "was", *BOTH)
+OF_CHANGE = ("gained", "lost")
+OF_STATEMENT = ("change", "was", *BOTH, *OF_CHANGE)
 COLUMNS_OF = ("rev", "date", "theorem", *OF_AXIOMS, "fault", "author", "subject", *OF_STATEMENT)
 
-CHANGED, RENAMED = "changed", "renamed"
+CHANGED, RENAMED, BELOW = "changed", "renamed", "below"
 AN_AXIOM = ("it is a theorem now, and was an axiom", "it is an axiom now, and was a theorem")
 
 Row = tuple[Value, ...]
@@ -98,6 +105,8 @@ class Turn(NamedTuple):
     differ: str | None = None
     old: str | None = None
     new: str | None = None
+    gained: Sequence[str] | None = None
+    lost: Sequence[str] | None = None
 
 
 NO_TURN = Turn()
@@ -214,11 +223,14 @@ def put_life(context: Context, known: Known, axioms: Sequence[str]) -> None:
     """Answers what became of a statement, or since when it rests on axioms."""
     most = most_of(context.out.format)
     rows = [*(answers(known, axioms, most) if axioms else life(known, most))]
-    aside = BOTH if axioms else (*OF_AXIOMS, *BOTH)
+    aside = (*BOTH, *OF_CHANGE) if axioms else (*OF_AXIOMS, *BOTH)
     context.out.table(COLUMNS_OF, rows, aside)
     if context.out.format == "text":
         changed = [row for row in rows if row[COLUMNS_OF.index("change")] == "changed"]
-        for line in lines_of(Change(f"{row[2]}, {row[1]}", *map(str, row[-3:])) for row in changed):
+        start = COLUMNS_OF.index(BOTH[0])
+        both = (map(str, row[start : start + len(BOTH)]) for row in changed)
+        told = (Change(f"{row[2]}, {row[1]}", *each) for row, each in zip(changed, both))
+        for line in lines_of(told):
             context.out.line(line)
 
 
@@ -267,7 +279,21 @@ def turns(known: Known, most: int) -> Iterator[Turn]:
 
 
 def turn_of(before: Figures | None, now: Figures, most: int) -> Turn:
-    """What a revision did to the statement. There is none before the first one."""
+    """What a revision did to the statement, and on which axioms it rests since then and no longer.
+    There is none before the first one."""
+    found = statement_turn(before, now, most)
+    if before is None or not before.has_theorem or not now.has_theorem:
+        return found
+    was, rests = before.axioms or (), now.axioms or ()
+    gained = [axiom for axiom in rests if axiom not in was]
+    lost = [axiom for axiom in was if axiom not in rests]
+    if not gained and not lost:
+        return found
+    return found._replace(change=found.change or BELOW, gained=gained or None, lost=lost or None)
+
+
+def statement_turn(before: Figures | None, now: Figures, most: int) -> Turn:
+    """What a revision did to the statement itself and to its proof."""
     old, new = None if before is None else before.assertion, now.assertion
     if new is None:
         return NO_TURN if old is None else Turn("gone")

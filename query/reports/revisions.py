@@ -36,7 +36,7 @@ from query.texts.uncommented import without_comments
 LABEL = re.compile(LABEL_PATTERN)
 AT_ONCE = 4
 """So many revisions are judged at once, where there are as many processors."""
-FORM = 3
+FORM = 4
 """Counts the forms in which figures are kept. A change of what they hold has to change it."""
 
 
@@ -56,7 +56,8 @@ class Figures:
     """What a revision says. `rest` has for each label that is an axiom how many theorems rest on
     it, or with a label 1 where the theorem of this label does and otherwise 0. `line` is that of
     the assertion of this `label` in the section `statements`, None where there is none, and `proof`
-    a sum of its proof. With a `fault` there is nothing else to say."""
+    a sum of its proof. `axioms` are those of the typecode asked for on which the assertion rests,
+    None where others are asked for. With a `fault` there is nothing else to say."""
 
     theorems: int | None = None
     rest: dict[str, int] | None = None
@@ -64,6 +65,7 @@ class Figures:
     line: str | None = None
     proof: str | None = None
     fault: str | None = None
+    axioms: Sequence[str] | None = None
 
     def count(self, axiom: str) -> int | None:
         """How many theorems rest on an axiom; None where it isn't one."""
@@ -199,7 +201,16 @@ def figures(source: Source, question: Question) -> Figures:
     numbers = dict(zip(columns, unpacked_numbers(parts["numbers"])))
     rest = {axiom: numbers[axiom] for axiom in question.axioms if axiom in numbers}
     line, proof = (parts[name].decode() or None for name in ("line", "proof"))
-    return Figures(int(parts["theorems"]), rest, label, line, proof)
+    found = Figures(int(parts["theorems"]), rest, label, line, proof)
+    if label is None or question.axioms:
+        return found
+    typecodes = parts["typecodes"].decode().split("\n")
+    chosen = [
+        axiom
+        for axiom, typecode in zip(columns, typecodes)
+        if numbers[axiom] and question.options.only in (None, typecode)
+    ]
+    return replace(found, axioms=chosen)
 
 
 def kept(database: Database, label: str | None) -> dict[str, bytes]:
@@ -231,7 +242,9 @@ def parts_of(database: Database, label: str | None) -> dict[str, bytes]:
         parts |= {"line": line, "proof": sum_of_proof(database.data(), line)}
     numbers = numbers_of(found, label)
     axioms = "\n".join(found.columns).encode()
-    return parts | {"axioms": axioms, "numbers": array("I", numbers).tobytes()}
+    typecodes = "\n".join(found.typecodes).encode()
+    numbers_kept = array("I", numbers).tobytes()
+    return parts | {"axioms": axioms, "typecodes": typecodes, "numbers": numbers_kept}
 
 
 def line_of(statements: bytes, label: str) -> bytes:

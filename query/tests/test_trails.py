@@ -186,6 +186,32 @@ class Life(Repositories):
         for label in ("zorn", "zorn3"):
             self.assertEqual(self.told("db.mm", "HEAD", "ax-ac2", "--of", label), wanted)
 
+    def test_axioms_that_nobody_named(self) -> None:
+        """Which axioms a theorem gained and lost at each revision, also by the proofs of others, is
+        what `rests` says of it before and after."""
+        direct = ("wq wp axac3 a1i", "wq wp ax-ac2 a1i")
+        freed = changed(BASE, FREED)
+        texts = [BASE, freed, freed + ADDED, changed(freed, direct), changed(BASE, direct)]
+        texts.append(changed(freed, ("zorn $p", "other $p")))
+        for text in texts[1:]:
+            self.commit(text)
+        rests = []
+        for number, text in enumerate(texts):
+            self.write(f"t{number}.mm", text)
+            label = "other" if "other $p" in text else "zorn"
+            rests.append(set(self.answers("rests", f"t{number}.mm", label)))
+        rows = self.rows("db.mm", "HEAD", "--of", "other")
+        commits = self.git("rev-list", "--reverse", "HEAD").split()
+        told = {commits.index(str(row["rev"])): row for row in rows}
+        for number in range(1, len(texts)):
+            row = told.get(number, {})
+            gained, lost = (set(row.get(name) or ()) for name in ("gained", "lost"))
+            self.assertEqual(gained, rests[number] - rests[number - 1], number)
+            self.assertEqual(lost, rests[number - 1] - rests[number], number)
+        changes = [(number, row["change"]) for number, row in told.items()]
+        self.assertEqual(changes, [(0, "there"), (1, "below"), (3, "proof"), (5, "renamed")])
+        self.assertEqual((told[1]["lost"], told[3]["gained"]), (["ax-ac2"], ["ax-ac2"]))
+
     def test_an_axiom(self) -> None:
         self.commit(BASE.replace("ax-ac2", "ax-ac3"))
         self.assertEqual(self.lives("ax-ac2"), self.AXIOM)
