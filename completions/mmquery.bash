@@ -18,6 +18,7 @@ _mmquery() {
             chapters:--by) words='rest share' ;;
             proofs:--by) words='steps depth bytes' ;;
             chapters:--between) words='part chapter section subsection' ;;
+            discouraged:--outside) words='part chapter section subsection' ;;
             graph:--as) words='dot graphml edges' ;;
             cache:cache) words='show clear' ;;
             *)
@@ -33,7 +34,7 @@ _mmquery() {
                     frees:-*) words='--most --plan --given --keep --keep-wrappers --essential --open --format --before --after --main --mathbox --under --like --not --among --not-among --contributor --since --until --no-cache --limit-time --limit-memory -h --help' ;;
                     spare:-*) words='--all --shorter --new-steps --theorem --may-gain --write --proof --only --open --jobs --cite-discouraged --cite-old --cite-mathboxes --change-discouraged --format --no-cache --limit-time --limit-memory -h --help' ;;
                     repeats:-*) words='--only --open --kept --other-mathboxes --how --format --before --after --main --mathbox --under --like --not --among --not-among --contributor --since --until --no-cache --limit-time --limit-memory -h --help' ;;
-                    unneeded:-*) words='--hypotheses --disjoint --symbols --open --format --before --after --main --mathbox --under --like --not --among --not-among --contributor --since --until --no-cache --limit-time --limit-memory -h --help' ;;
+                    unneeded:-*) words='--hypotheses --disjoint --symbols --through --open --format --before --after --main --mathbox --under --like --not --among --not-among --contributor --since --until --no-cache --limit-time --limit-memory -h --help' ;;
                     top:-*) words='--theorems --below --outside-mathboxes --against --only --all --axioms --ignore-definitions --essential --open --format --before --after --main --mathbox --under --like --not --among --not-among --contributor --since --until --no-cache --limit-time --limit-memory -h --help' ;;
                     sets:-*) words='--together --only --all --axioms --ignore-definitions --essential --open --format --before --after --main --mathbox --under --like --not --among --not-among --contributor --since --until --no-cache --limit-time --limit-memory -h --help' ;;
                     within:-*) words='--list --only --all --axioms --ignore-definitions --essential --open --format --before --after --main --mathbox --under --like --not --among --not-among --contributor --since --until --no-cache --limit-time --limit-memory -h --help' ;;
@@ -48,7 +49,7 @@ _mmquery() {
                     contributors:-*) words='--most --open --format --before --after --main --mathbox --under --like --not --among --not-among --contributor --since --until --no-cache --limit-time --limit-memory -h --help' ;;
                     order:-*) words='--columns --proofs --only --all --axioms --ignore-definitions --essential --open --format --before --after --main --mathbox --under --like --not --among --not-among --contributor --since --until --no-cache --limit-time --limit-memory -h --help' ;;
                     unfinished:-*) words='--essential --open --format --before --after --main --mathbox --under --like --not --among --not-among --contributor --since --until --no-cache --limit-time --limit-memory -h --help' ;;
-                    discouraged:-*) words='--essential --open --format --before --after --main --mathbox --under --like --not --among --not-among --contributor --since --until --no-cache --limit-time --limit-memory -h --help' ;;
+                    discouraged:-*) words='--outside --essential --open --format --before --after --main --mathbox --under --like --not --among --not-among --contributor --since --until --no-cache --limit-time --limit-memory -h --help' ;;
                     mathboxes:-*) words='--of --ready --essential --open --format --before --after --main --mathbox --under --like --not --among --not-among --contributor --since --until --no-cache --limit-time --limit-memory -h --help' ;;
                     comments:-*) words='--open --format --before --after --main --mathbox --under --like --not --among --not-among --contributor --since --until --no-cache --limit-time --limit-memory -h --help' ;;
                     obsolete:-*) words='--due --essential --open --format --before --after --main --mathbox --under --like --not --among --not-among --contributor --since --until --no-cache --limit-time --limit-memory -h --help' ;;
@@ -56,7 +57,7 @@ _mmquery() {
                     equivalents:-*) words='--without --only --all --axioms --ignore-definitions --essential --open --format --no-cache --limit-time --limit-memory -h --help' ;;
                     search:-*) words='--given --no-hypotheses --open --format --before --after --main --mathbox --under --like --not --among --not-among --contributor --since --until --no-cache --limit-time --limit-memory -h --help' ;;
                     needs:-*) words='--tree --open --format --before --after --main --mathbox --under --like --not --among --not-among --contributor --since --until --no-cache --limit-time --limit-memory -h --help' ;;
-                    drop:-*) words='--essential --open --format --no-cache --limit-time --limit-memory -h --help' ;;
+                    drop:-*) words='--under --essential --open --format --no-cache --limit-time --limit-memory -h --help' ;;
                     move:-*) words='--to --ready --open --format --before --after --main --mathbox --under --like --not --among --not-among --contributor --since --until --no-cache --limit-time --limit-memory -h --help' ;;
                     graph:-*) words='--as --depth --through --landmarks --essential --open --no-cache --limit-time --limit-memory -h --help' ;;
                     picture:-*) words='--png --svg --across --down --only --all --axioms --ignore-definitions --essential --open --no-cache --limit-time --limit-memory -h --help' ;;

@@ -38,6 +38,9 @@ which * is anything and ? any character: then it is each theorem and axiom like 
 theorem  who cites it
 cited    what is cited, one of the LABELs
 
+Proofs alone cite. On which lines comments name a theorem, as ~ LABEL or in a $j, is told by `drop`,
+and which labels in comments no statement has, as after a label was changed, by `comments`.
+
   $ mmquery cited-by set.mm ax-ac2
   $ mmquery cited-by set.mm '*OLD'
 """

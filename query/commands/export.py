@@ -13,21 +13,25 @@ from query.program.mmdepend import version
 
 PAGE = """
 Writes statements, citations and marks as tables of SQLite into FILE. One that `export` wrote before
-is replaced, another file isn't. docs/SQL.md describes the columns, with ten queries.
+is replaced, another file isn't. docs/SQL.md describes all columns, with ten queries.
 
 table  its name
 rows   how many rows it has
 
   about       the database and the options
-  chapter     the headers
-  statement   axioms and theorems: label, kind, typecode, formula, line, chapter, mathbox, whether
-              new usage and modification are discouraged, comment, contributor, and contributed,
-              which is the day
-  hypothesis  the $e of a statement
-  disjoint    the pairs of its variables that must be distinct
-  proof       steps, depth and bytes of a theorem's proof
-  citation    what the proof of a theorem cites
-  mark        the axioms on which a theorem rests
+  chapter     the headers: id, number, level, title, and first and last, which are statements
+  statement   axioms and theorems: id, label, kind, typecode, formula, line, chapter, mathbox,
+              usage_discouraged and proof_discouraged (1 or 0), comment, contributor, and
+              contributed, which is the day
+  hypothesis  the $e of a statement: statement, position, label, formula
+  disjoint    the pairs of its variables that must be distinct: statement, first, second
+  proof       theorem, and steps, depth and bytes of its proof
+  citation    citing, which is a theorem, and cited, what its proof cites
+  mark        theorem, and axiom, one on which it rests
+
+To join, statement.id is what statement, citing, cited, theorem, axiom, and first and last of a
+chapter have, and chapter.id is what statement.chapter has. The views citation_label and mark_label
+have labels in place of numbers.
 
   $ mmquery export --sqlite set.db set.mm
   $ sqlite3 set.db "SELECT count(*) FROM statement JOIN mark_label ON theorem = label

@@ -22,6 +22,9 @@ theorem      the label of the theorem
 contributor  who contributed it, as its comment says: (Contributed by N, 5-Aug-1993.)
 contributed  and when, as 1993-08-05
 
+With --essential the depth is that by the logical part of proofs. Steps and bytes are those of the
+text, with what builds formulas, and stay as they are; `steps` lists the logical steps alone.
+
 How many theorems each contributor has is told by `contributors`.
 
   $ mmquery proofs set.mm --most 5

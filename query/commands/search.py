@@ -13,12 +13,12 @@ from query.reports.choice import Options
 from query.texts.text import Text
 
 PAGE = """
-Lists in file order the formulas that have each PATTERN: symbols as they are typed, of a whole
-formula or of a part. A constant stands for itself. A variable stands for anything that may be put
-in its place, the same wherever it stands: `A ~~ B ->` finds `( ( A u. B ) ~~ C -> ph )`. In double
-quotes, as in '"A ~~ B ->"', a variable stands for itself, too. One that begins with - goes behind
---, after which nothing is an option. Where no formula has a PATTERN, standard error says how many
-have it with more brackets, as ( A + B ) for A + B, or both sides of its one ->.
+Lists in file order the formulas, and not the comments, that have each PATTERN: symbols as they are
+typed, of a whole formula or of a part. A constant stands for itself. A variable stands for anything
+that may be put in its place, the same wherever it stands: `A ~~ B ->` finds `( ( A u. B ) ~~ C ->
+ph )`. In double quotes, as in '"A ~~ B ->"', a variable stands for itself, too. One that begins
+with - goes behind --, after which nothing is an option. Where no formula has a PATTERN, standard
+error says how many have it with more brackets, as ( A + B ) for A + B, or both sides of its one ->.
 
 With --no-hypotheses the formulas of statements alone, and not those of their $e.
 
@@ -68,7 +68,7 @@ def run(context: Context, arguments: argparse.Namespace) -> int:
         for told, places in ((UNREAD, searcher.unread), (GIVEN_UP, searcher.given_up))
     }
     whose = " of a statement itself" if arguments.no_hypotheses else ""
-    why = f"{database.name}: no formula{whose} has that"
+    why = f"{database.name}: no formula{whose} has that{context.filters.in_words()}"
     if not rows and not given and len(patterns) == 1 and '"' not in arguments.patterns[0]:
         why += near(searcher, text, database.name, patterns[0])
     aside = ["given"] if arguments.no_hypotheses else []

@@ -2,8 +2,8 @@
 its parts, beside what rests on what."""
 
 import argparse
-from bisect import bisect_left
-from collections.abc import Sequence
+from bisect import bisect_left, bisect_right
+from collections.abc import Callable, Sequence
 
 from query.answers.errors import NoAnswer, shown
 from query.answers.output import Value
@@ -63,7 +63,9 @@ first     the first of these
 title     that of the first header
 of        that of the other one
 
-With --of HEADER, a number or a title, only the rows that have it, on either side.
+With --of HEADER, a number, a title, or a part of a title that no other header has, only the rows
+that have it, on either side. What falls where a header is dropped with all that stands below it, is
+told by `falls --under HEADER`, also through other theorems.
 
   $ mmquery chapters set.mm ax-ac2 ax-reg
   $ mmquery chapters set.mm ax-ac2 ax-cc --any
@@ -123,15 +125,22 @@ file `discouraged`, in its order:
 
 In the other formats the fields are
 
-what   use (B uses A), usage (new usage of A is discouraged), or proof
-label  A
-by     B
-count  how many theorems cite A, or how many steps the proof has as it is written
+what       use (B uses A), usage (new usage of A is discouraged), or proof
+label      A
+by         B
+count      how many theorems cite A, or how many steps the proof has as it is written
+header     the number of the header under which A stands
+by_header  and that of the header under which B stands
+
+With --outside LEVEL only the uses of A by a B that stands in another part, chapter, section or
+subsection: between the two begins a header of this level or of an outer one. With subsection
+that is each use from under another header.
 
 The filters go by A, what is discouraged, and not by B, what cites it. So the filter --mathbox NAME
 goes by A: with it only the lines of what stands in NAME's mathbox.
 
   $ mmquery discouraged set.mm
+  $ mmquery discouraged set.mm --outside section --format csv
 """
 
 MATHBOXES_PAGE = """
@@ -397,17 +406,33 @@ def run_unfinished(context: Context, arguments: argparse.Namespace) -> int:
 def configure_discouraged(parser: Parser) -> None:
     """The words and options of `discouraged`."""
     add_database(parser)
+    add_level(parser, "--outside", "only uses from outside of A's header of this level")
     add_choice_of_citations(parser)
 
 
 def discouraged_line(row: Sequence[Value]) -> str:
     """A line of set.mm's file `discouraged`."""
-    what, label, user, count = row
+    what, label, user, count = row[:4]
     if what == "use":
         return f'"{label}" is used by "{user}".'
     if what == "usage":
         return f'New usage of "{label}" is discouraged ({count} uses).'
     return f'Proof modification of "{label}" is discouraged ({count} steps).'
+
+
+def headers_of(text: Text, label: str, user: str | None = None) -> list[Value]:
+    """The numbers of the headers under which an assertion and what uses it stand."""
+    other = None if user is None else text.chapter_number(text.by_label[user])
+    return [text.chapter_number(text.by_label[label]), other]
+
+
+def stretches(text: Text, level: str | None) -> Callable[[str], int]:
+    """In which stretch between headers of a level, or of outer ones, an assertion stands."""
+    if level is None:
+        return lambda label: 0
+    most = LEVELS.index(level)
+    firsts = [header.first for header in text.headers if header.level <= most]
+    return lambda label: bisect_right(firsts, text.by_label[label].number)
 
 
 def run_discouraged(context: Context, arguments: argparse.Namespace) -> int:
@@ -418,18 +443,27 @@ def run_discouraged(context: Context, arguments: argparse.Namespace) -> int:
     labels = discouraged_labels(text)
     counts = dict.fromkeys(labels, 0)
     rows: list[list[Value]] = []
+    stretch = stretches(text, arguments.outside)
     for user, cited in citations(graph, labels):
         counts[cited] += 1
-        rows.append(["use", cited, user, None])
-    rows += [["usage", label, None, count] for label, count in counts.items()]
-    for one in text.assertions:
-        if is_proof_discouraged(text, one):
-            rows.append(["proof", one.label, None, written_steps(text, one)])
-    if not rows:
+        if arguments.outside is None or stretch(user) != stretch(cited):
+            rows.append(["use", cited, user, None, *headers_of(text, cited, user)])
+    if arguments.outside is None:
+        rows += [
+            ["usage", label, None, count, *headers_of(text, label)]
+            for label, count in counts.items()
+        ]
+        for one in text.assertions:
+            if is_proof_discouraged(text, one):
+                headers = headers_of(text, one.label)
+                rows.append(["proof", one.label, None, written_steps(text, one), *headers])
+    if not rows and arguments.outside and any(counts.values()):
+        context.tell(f"{database.name}: nothing discouraged is used outside of its header")
+    elif not rows:
         context.tell(f"{database.name}: no comment says that something is discouraged")
     passing = context.passing(rows, 1)
     if context.out.format != "text":
-        context.out.table(["what", "label", "by", "count"], passing)
+        context.out.table(["what", "label", "by", "count", "header", "by_header"], passing)
         return 0
     for line in sorted(map(discouraged_line, passing)):
         context.out.line(line)

@@ -2,13 +2,15 @@
 
 import argparse
 from collections.abc import Iterator
+from typing import NamedTuple
 
 from query.answers.errors import NoAnswer
 from query.answers.output import Value
 from query.arguments.context import Context
 from query.arguments.options import Parser, add_database, add_open
 from query.commands import Command
-from query.proofs.unneeded import Symbol, read_text, unneeded_of
+from query.proofs.unneeded import Symbol, Unneeded, read_text, unneeded_of
+from query.proofs.unneeded_through import unneeded_through
 from query.reports.choice import Options
 from query.reports.database import NOTHING, Database
 
@@ -17,7 +19,8 @@ COLUMNS = ("what", "theorem", "unneeded", "floating")
 PAGE = """
 Lists what a database asks for although nothing needs it; without an option that chooses, all three.
 
---hypotheses  the $e of theorems whose label no step of the proof has
+--hypotheses  the $e of theorems whose label no step of the proof has. One that a step has, if only
+              to fill a hypothesis that is unneeded itself, isn't listed, but with --through
 --disjoint    the pairs of a theorem's variables that have to be distinct, though no step of its
               proof asks for that: without this pair in a $d, the proof is valid all the same, and
               so it is without all pairs that are listed
@@ -31,7 +34,11 @@ that cite the theorem; who drops a pair doesn't. But a $d holds for all assertio
 its block, and another one may need it. Theorems come in file order, and symbols last. With a
 filter, which asks for theorems, no symbols are listed.
 
-what      hypothesis, pair, constant, or variable
+With --through also the $e that a proof uses only to fill hypotheses of cited theorems which are
+listed themselves: where these are taken away from the cited theorems, nothing uses them any more.
+So all $e that are listed can be taken away together, with the steps that fill them.
+
+what      hypothesis, pair, constant, or variable; through for a $e that is listed by --through
 theorem   the label of the theorem; none for a symbol
 unneeded  the label of the $e, the two variables, or the symbol
 floating  of a variable the labels of its $f
@@ -41,6 +48,7 @@ theorems that is so.
 
   $ mmquery unneeded set.mm --disjoint --main
   $ mmquery unneeded set.mm --symbols
+  $ mmquery unneeded set.mm --hypotheses --through
 """
 
 GIVEN_UP = "of {} theorems it takes too long to say which pairs they need; the first is {}"
@@ -51,11 +59,24 @@ CHOICES = {
 }
 
 
+class Choice(NamedTuple):
+    """What is to be listed; with `through` also hypotheses that only fill others."""
+
+    hypotheses: bool
+    pairs: bool
+    symbols: bool
+    through: bool
+
+
+NONE = Unneeded([], [])
+
+
 def configure(parser: Parser) -> None:
     """Adds the words and options."""
     add_database(parser)
     for name, words in CHOICES.items():
         parser.flag(name, words)
+    parser.flag("--through", "also $e that only fill hypotheses which are themselves unneeded")
     add_open(parser)
 
 
@@ -69,13 +90,16 @@ def run(context: Context, arguments: argparse.Namespace) -> int:
     if not hypotheses and not pairs and not symbols:
         hypotheses = pairs = True
         symbols = not context.filters.are_given
+    if arguments.through and not hypotheses:
+        raise NoAnswer("--through is about hypotheses, so it wants --hypotheses")
     database = context.database(arguments.database, Options(open=arguments.open))
     database.see_text()
     if not database.text.assertions:
         raise NoAnswer(f"{database.name}: {NOTHING}")
     given_up: list[str] = []
-    rows = [*rows_of(context, database, (hypotheses, pairs, symbols), given_up)]
-    why = f"{database.name}: nothing was found that isn't needed"
+    choice = Choice(hypotheses, pairs, symbols, arguments.through)
+    rows = [*rows_of(context, database, choice, given_up)]
+    why = f"{database.name}: nothing was found that isn't needed{context.filters.in_words()}"
     aside = [
         name for name in COLUMNS[1::2] if all(row[COLUMNS.index(name)] is None for row in rows)
     ]
@@ -84,22 +108,28 @@ def run(context: Context, arguments: argparse.Namespace) -> int:
 
 
 def rows_of(
-    context: Context, database: Database, choice: tuple[bool, bool, bool], given_up: list[str]
+    context: Context, database: Database, choice: Choice, given_up: list[str]
 ) -> Iterator[list[Value]]:
-    """The rows of the answer: hypotheses, pairs and symbols, if they are wanted. Adds the labels of
-    the theorems whose pairs aren't known."""
-    hypotheses, pairs, symbols = choice
+    """The rows of the answer. Adds the labels of the theorems whose pairs aren't known."""
     text, keeps = database.text, context.test()
     declared, bare_text, proofs = read_text(text)
-    theorems = [one for one in text.assertions if one.letter == "p" and keeps(one.label)]
-    if hypotheses or pairs:
-        for label, found in unneeded_of(proofs, theorems, hypotheses, pairs):
-            for each in found.hypotheses:
-                yield ["hypothesis", label, each, None]
-            for pair in found.pairs:
-                yield ["pair", label, [*pair], None]
-            given_up += [label] * found.is_too_long
-    if symbols:
+    every = [one for one in text.assertions if one.letter == "p"]
+    theorems = [one for one in every if keeps(one.label)]
+    hypotheses = dict(unneeded_through(proofs, every)) if choice.through else {}
+    found: dict[str, Unneeded] = {}
+    if choice.hypotheses or choice.pairs:
+        has_direct = choice.hypotheses and not choice.through
+        found = dict(unneeded_of(proofs, theorems, has_direct, choice.pairs))
+    for one in theorems:
+        each = found.get(one.label, NONE)
+        for hypothesis in each.hypotheses:
+            yield ["hypothesis", one.label, hypothesis, None]
+        for hypothesis, is_used in hypotheses.get(one.label, {}).items():
+            yield ["through" if is_used else "hypothesis", one.label, hypothesis, None]
+        for pair in each.pairs:
+            yield ["pair", one.label, [*pair], None]
+        given_up += [one.label] * each.is_too_long
+    if choice.symbols:
         yield from map(row_of, declared.unneeded(bare_text))
 
 

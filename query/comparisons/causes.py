@@ -39,7 +39,8 @@ class Cause:
         count, fewer = self.axioms[axiom], self.fewer[axiom]
         if self.citing is None:
             return f"{count}"
-        return f"{count}; {f'{fewer} fewer' if fewer else 'as many'} without its new citations"
+        would = f"{fewer} fewer" if fewer else "as many"
+        return f"{count} did; without its new citations {would} would"
 
 
 class Causes:

@@ -128,7 +128,8 @@ def typecode_of_symbol(text: Text, name: str, symbol: str) -> str | None:
     if text.find(symbol) is not None:
         raise NoAnswer(f"{name}: '{shown(symbol)}' is a label, and a PATTERN has symbols")
     known = {each for one in text.assertions for each in one.formula.split(" ")}
-    raise NoAnswer(f"{name}: no statement has the symbol '{shown(symbol)}'{nearest(symbol, known)}")
+    meant = nearest(symbol, known) or "; formulas are searched, and not comments"
+    raise NoAnswer(f"{name}: no statement has the symbol '{shown(symbol)}'{meant}")
 
 
 @dataclass(frozen=True)

@@ -67,6 +67,10 @@ class Repeats(World):
         for how in HOW:
             told = [row for row in wanted if row[2] == how]
             self.assertEqual(self.rows("db.mm", "--how", how), told)
+        said = "mmquery: db.mm: 2 more with --kept --other-mathboxes; the first is t6OLD\n"
+        self.assertEqual(self.query("repeats", "db.mm").err, said)
+        self.assertEqual(self.query("repeats", "db.mm", "--no-cache").err, said)
+        self.assertEqual(self.query("repeats", "db.mm", "--kept").err, "")
         done = self.query("repeats", "db.mm", "--how=weaker", "--before=t3")
         self.assertIn("no theorem says what an earlier statement says in the way", done.err)
 
@@ -102,10 +106,10 @@ class Repeats(World):
         count = len([*kept.iterdir()])
         self.assertEqual(filtered, before[3])
         self.assertEqual(self.query("repeats", "db.mm"), before[0])
-        self.assertEqual(len([*kept.iterdir()]), count + 1, "what was found is kept")
+        self.assertEqual(len([*kept.iterdir()]), count + 2, "both that were found are kept")
         for words, wanted in zip(asked, before):
             self.assertEqual(self.query("repeats", "db.mm", *words), wanted, words)
-        self.assertEqual(len([*kept.iterdir()]), count + 2, "and that of --kept apart from it")
+        self.assertEqual(len([*kept.iterdir()]), count + 3, "and that of --kept apart from it")
         path = str(self.folder / "db.mm")
         surroundings = self.surroundings()
         with (

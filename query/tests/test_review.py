@@ -134,7 +134,7 @@ class Reviewed(World):
 
 
 EDIT = re.compile(r"(?:- )?(\S+) newly cites (\S+), by which theorems came to rest on (.*?)\.?")
-COUNTS = re.compile(r"(\S+) \((\d+); (?:as many|(\d+ fewer)) without its new citations\)")
+COUNTS = re.compile(r"(\S+) \((\d+) did; without its new citations (?:as many|(\d+ fewer)) would\)")
 HEADING = "**Edits that let axioms in**:"
 Cites = dict[str, list[str]]
 
@@ -196,7 +196,7 @@ class Edits(World):
         text, markdown = self.both(old, new)
         said = (
             "a1i newly cites all, by which theorems came to rest on all"
-            " (3; 3 fewer without its new citations)"
+            " (3 did; without its new citations 3 fewer would)"
         )
         self.assertEqual(text[:2], [said, ""])
         self.assertEqual([line.split()[0] for line in text[2:]], ["theorem", "a1i"])

@@ -319,12 +319,46 @@ class Structure(World):
         self.assertEqual(
             self.rows("discouraged", "db.mm"),
             [
-                ["use", "four", "five", ""],
-                ["usage", "four", "", "1"],
-                ["usage", "five", "", "0"],
-                ["proof", "five", "", "2"],
+                ["use", "four", "five", "", "0.3", "0.3"],
+                ["usage", "four", "", "1", "0.3", ""],
+                ["usage", "five", "", "0", "0.3", ""],
+                ["proof", "five", "", "2", "0.3", ""],
             ],
         )
+
+    def test_discouraged_outside(self) -> None:
+        """Uses of what is discouraged from outside of its header, against the numbers of both
+        headers, cut at a level."""
+        chance = random.Random(3)
+        kinds = set()
+        for _ in range(6):
+            lines: list[str] = []
+            for line in invented(chance, 9).text.splitlines():
+                if " $p " in line or " $a |-" in line:
+                    if chance.random() < 0.5:
+                        sign = chance.choice(("####", "#*#*", "=-=-", "-.-."))
+                        lines.append(f"$(\n{sign * 4}\n  T\n{sign * 4}\n$)")
+                    if chance.random() < 0.6:
+                        before, _, behind = line.rpartition(" $p " if " $p " in line else " $a ")
+                        label = before.split()[-1]
+                        sign = "$p" if " $p " in line else "$a"
+                        comment = "$( (New usage is discouraged.) $)"
+                        line = f"{before.removesuffix(label)}{comment} {label} {sign} {behind}"
+                lines.append(line)
+            self.write("db.mm", "\n".join(lines) + "\n")
+            uses = [row for row in self.rows("discouraged", "db.mm") if row[0] == "use"]
+            places = [*map(str.split, self.answers("order", "db.mm", "--format=tsv", "--all")[1:])]
+            numbers = {row[4]: row[5] if len(row) > 5 else "" for row in places}
+            padded = {label: f"{each or 0}.0.0.0".split(".") for label, each in numbers.items()}
+            for count, level in enumerate(("part", "chapter", "section", "subsection"), 1):
+                outside = [
+                    row for row in uses if padded[row[1]][:count] != padded[row[2]][:count]
+                ]
+                self.assertEqual(self.rows("discouraged", "db.mm", "--outside", level), outside)
+                kinds.add((level, len(outside) in (0, len(uses))))
+            for row in uses:
+                self.assertEqual(row[4:], [numbers[row[1]], numbers[row[2]]])
+        self.assertGreater(len(kinds), 4)
 
     def test_mathboxes(self) -> None:
         self.assertEqual(self.rows("mathboxes", "db.mm"), [["four", "Bo", "three", "Ann Other"]])

@@ -13,6 +13,7 @@ from query.platform.parallel import Copy
 from query.proofs import unneeded
 from query.proofs.letters import letters_of
 from query.proofs.unneeded import Unneeded, read_text, unneeded_of
+from query.proofs.unneeded_through import unneeded_through
 from query.tests import shapes
 from query.tests.replay import Frame, frames
 from query.tests.test_spare_search import Known, Maker
@@ -100,6 +101,22 @@ class Small(World):
         symbols = [row[2] for row in self.rows("db.mm", "--symbols")]
         self.assertEqual(symbols, ["spare", "few", "unused", "dull", "lone", "dummy"])
 
+    def test_through(self) -> None:
+        """With `--through` also what only fills hypotheses that are listed."""
+        proofs = {"u": "wq ax", "v": "wp wq v.1 u", "w": "( v ) ABCD", "x": "wp wq x.1 w"}
+        text = HEAD + "".join(
+            f"${{ {label}.1 $e |- p $. {label} $p |- ( q -> q ) $= {proof} $. $}}\n"
+            for label, proof in proofs.items()
+        )
+        self.write("db.mm", text)
+        wanted = [["hypothesis", "u", "u.1", ""]]
+        self.assertEqual(self.rows("db.mm", "--hypotheses"), wanted)
+        wanted += [["through", label, f"{label}.1", ""] for label in "vwx"]
+        self.assertEqual(self.rows("db.mm", "--hypotheses", "--through"), wanted)
+        self.assertEqual(self.rows("db.mm", "--through", "--like", "w"), wanted[2:3])
+        why = "--through is about hypotheses, so it wants --hypotheses"
+        self.refuses("unneeded", "db.mm", "--disjoint", "--through", why=why)
+
     def test_filters(self) -> None:
         self.write("db.mm", TEXT)
         self.assertEqual(self.rows("db.mm", "--like", "t2"), ROWS[3:5])
@@ -168,6 +185,59 @@ def compressed(frame: Frame, sizes: dict[str, int]) -> str:
     return f"( {' '.join(labels[len(given):])} ) {letters(stack[0])}"
 
 
+Gone = dict[str, dict[str, bool]]
+"""For each theorem the `$e` that are taken away, each with whether its proof uses it."""
+
+
+def without_told(text: Text) -> Gone:
+    """What `--through` tells of each theorem."""
+    _, _, proofs = read_text(text)
+    return dict(unneeded_through(proofs, [one for one in text.assertions if one.letter == "p"]))
+
+
+def rewritten(text: str, gone: Gone) -> tuple[str, list[tuple[str, str]]]:
+    """A database of normal proofs in which each assertion is a line, without some `$e` and the steps
+    that fill them; and the `$e` that are left of theorems. The steps of a proof are cut out by what
+    the program's frames say of both databases, from the last step backwards."""
+    old = mandatory_in(text)
+    lines = text.splitlines()
+    for number, line in enumerate(lines):
+        match = re.search(r" (\S+) \$p ", line)
+        for label in gone.get(match[1], ()) if match else ():
+            line = re.sub(rf" {re.escape(label)} \$e [^$]*\$\.", "", line)
+        lines[number] = line
+    new = mandatory_in("\n".join(lines))
+    for number, line in enumerate(lines):
+        match = re.search(r" \$p .*\$= (.*) \$\.", line)
+        if match:
+            words = " ".join(left_of(match[1].split(), old, new))
+            lines[number] = line[: match.start(1)] + words + line[match.end(1) :]
+    kept = [
+        (label, each)
+        for label, hypotheses in new.items()
+        for each in hypotheses
+        if f"{each} $e" in text and f" {label} $p" in text
+    ]
+    return "\n".join(lines) + "\n", kept
+
+
+def mandatory_in(text: str) -> dict[str, list[str]]:
+    """The mandatory hypotheses of each assertion, in order."""
+    return {each.label: [one[0] for one in each.mandatory] for each in frames(text)}
+
+
+def left_of(words: list[str], old: dict[str, list[str]], new: dict[str, list[str]]) -> list[str]:
+    """A normal proof without the steps that fill what is gone."""
+    stack: list[list[str]] = []
+    for word in words:
+        taken = old.get(word, [])
+        filling = stack[len(stack) - len(taken) :] if taken else []
+        del stack[len(stack) - len(taken) :]
+        left = [each for name, each in zip(taken, filling) if name in new.get(word, [])]
+        stack.append([one for each in left for one in each] + [word])
+    return stack[-1]
+
+
 class ByChance(World):
     """What is told can be taken away, and nothing else can."""
 
@@ -195,6 +265,27 @@ class ByChance(World):
             counted[start == "$d", is_told] += count
         self.assertEqual(len(counted), 4)
         self.assertGreater(min(counted.values()), 20, counted)
+
+    def test_hypotheses_through(self) -> None:
+        """Without all `$e` that are told, and the steps that fill them, the database is valid. A
+        `$e` that isn't told is needed: with it away, and each step that would fill a told one,
+        nothing proves the theorem by the same citations."""
+        counts: Counter[str] = Counter()
+        for seed in range(12):
+            text = Lavish(seed).text(25)
+            data = text.encode()
+            found = without_told(database_text(data))
+            shorter, kept = rewritten(text, found)
+            self.assertTrue(is_valid(shorter), (seed, shorter))
+            counts["told"] += sum(map(len, found.values()))
+            counts["through"] += sum(
+                is_used for each in found.values() for is_used in each.values()
+            )
+            for label, hypothesis in kept:
+                more = {**found, label: {**found.get(label, {}), hypothesis: True}}
+                self.assertFalse(is_valid(rewritten(text, more)[0]), (seed, label, hypothesis))
+                counts["kept"] += 1
+        self.assertGreater(min(counts[each] for each in ("told", "through", "kept")), 5, counts)
 
     def drops(self, line: str, each: Unneeded) -> list[tuple[str, bool]]:
         """The `$e` of a theorem, and its `$d` that are mandatory, each with whether it is told."""
