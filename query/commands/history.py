@@ -105,8 +105,8 @@ class Turn(NamedTuple):
     differ: str | None = None
     old: str | None = None
     new: str | None = None
-    gained: Sequence[str] | None = None
-    lost: Sequence[str] | None = None
+    gained: list[str] | None = None
+    lost: list[str] | None = None
 
 
 NO_TURN = Turn()

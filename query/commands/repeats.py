@@ -141,8 +141,9 @@ def found_in(context: Context, database: Database, sought: Sought) -> tuple[Foun
         most = Found(repeats, finder.given_up, rules.unread)
     found = most if sought == sought.most() else among_fewer(context, shelf, most, sought)
     if database.uses_cache and not context.filters.are_given:
-        for key, each in zip(keys, (found, most)):
-            store(key, each)
+        store(keys[0], found)
+        if known[1] is None:
+            store(keys[1], most)
     return found, most
 
 

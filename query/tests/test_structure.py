@@ -351,9 +351,7 @@ class Structure(World):
             numbers = {row[4]: row[5] if len(row) > 5 else "" for row in places}
             padded = {label: f"{each or 0}.0.0.0".split(".") for label, each in numbers.items()}
             for count, level in enumerate(("part", "chapter", "section", "subsection"), 1):
-                outside = [
-                    row for row in uses if padded[row[1]][:count] != padded[row[2]][:count]
-                ]
+                outside = [row for row in uses if padded[row[1]][:count] != padded[row[2]][:count]]
                 self.assertEqual(self.rows("discouraged", "db.mm", "--outside", level), outside)
                 kinds.add((level, len(outside) in (0, len(uses))))
             for row in uses:

@@ -205,7 +205,7 @@ class Life(Repositories):
         told = {commits.index(str(row["rev"])): row for row in rows}
         for number in range(1, len(texts)):
             row = told.get(number, {})
-            gained, lost = (set(row.get(name) or ()) for name in ("gained", "lost"))
+            gained, lost = (words_in(row.get(name)) for name in ("gained", "lost"))
             self.assertEqual(gained, rests[number] - rests[number - 1], number)
             self.assertEqual(lost, rests[number - 1] - rests[number], number)
         changes = [(number, row["change"]) for number, row in told.items()]
@@ -252,6 +252,11 @@ class Life(Repositories):
         self.refuses("history", "db.mm", "HEAD", "--of", "x", why=why)
         self.refuses("history", "db.mm", "HEAD", "--of", "wp", why="has a statement 'wp'")
         self.refuses("history", "db.mm", "HEAD", "--of", "a:b", why="has a statement 'a:b'")
+
+
+def words_in(value: object) -> set[str]:
+    """The words of a list in an answer; none where there is none."""
+    return {str(each) for each in value} if isinstance(value, list) else set()
 
 
 def without_gone(rows: Sequence[Row]) -> list[Row]:

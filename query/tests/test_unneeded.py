@@ -196,9 +196,9 @@ def without_told(text: Text) -> Gone:
 
 
 def rewritten(text: str, gone: Gone) -> tuple[str, list[tuple[str, str]]]:
-    """A database of normal proofs in which each assertion is a line, without some `$e` and the steps
-    that fill them; and the `$e` that are left of theorems. The steps of a proof are cut out by what
-    the program's frames say of both databases, from the last step backwards."""
+    """A database of normal proofs, in which each assertion is a line, without some `$e` and the
+    steps that fill them; and the `$e` that are left of theorems. The steps are cut out by the frames
+    of both databases."""
     old = mandatory_in(text)
     lines = text.splitlines()
     for number, line in enumerate(lines):
