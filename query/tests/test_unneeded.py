@@ -197,8 +197,8 @@ def without_told(text: Text) -> Gone:
 
 def rewritten(text: str, gone: Gone) -> tuple[str, list[tuple[str, str]]]:
     """A database of normal proofs, in which each assertion is a line, without some `$e` and the
-    steps that fill them; and the `$e` that are left of theorems. The steps are cut out by the frames
-    of both databases."""
+    steps that fill them; and the `$e` that are left of theorems. The steps are cut out by what both
+    databases say of hypotheses."""
     old = mandatory_in(text)
     lines = text.splitlines()
     for number, line in enumerate(lines):
