@@ -63,8 +63,9 @@ other proofs are judged on. --most N ends with the Nth fault.
   $ mmquery verify --each broken.mm
 """
 
-NOTHING = ["--report=citations", "--only="]
-"""The report of the axioms of no typecode, in which nothing is listed."""
+SHORTEST_REPORT = ["--report=citations", "--only="]
+"""A report of which only the refusal is wanted: no marks are made for it, and each theorem has a
+line that cites nothing."""
 SHOWN_WORD = 1000
 """Bytes of a word that are shown."""
 FIELDS = ["line", "column", "code", "statement", "meaning", "advice"]
@@ -145,7 +146,9 @@ def others(database: Database, first: Refused, most: int) -> Iterator[Refused]:
         progress.now(f"verifying {database.name} without {number + 1} proofs")
         source = Source(database.name, bytes(data))
         try:
-            mmdepend.report(database.program, source, NOTHING + ["--open"] * database.options.open)
+            mmdepend.report(
+                database.program, source, SHORTEST_REPORT + ["--open"] * database.options.open
+            )
             return
         except Refused as found:
             refusal = Refused(database.source, found.line, found.column, found.code)

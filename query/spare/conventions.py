@@ -11,7 +11,7 @@ from query.texts.discouraged import is_discouraged
 
 LAST = ("ALT", "OLD")
 """How labels end of statements that nothing new should cite."""
-MOST_GIVEN = 50
+MOST_PREMISES = 50
 """A statement with more `$e` hypotheses isn't cited in place of another."""
 
 
@@ -61,6 +61,6 @@ def conventions_of(
 def is_fit(rule: Rule) -> bool:
     """Whether a rule can be cited in place of another."""
     essential = rule.essential()
-    if not rule.is_logical or rule.tree < 0 or len(essential) > MOST_GIVEN:
+    if not rule.is_logical or rule.tree < 0 or len(essential) > MOST_PREMISES:
         return False
     return all(each.number >= 0 for each in essential)

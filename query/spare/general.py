@@ -146,7 +146,7 @@ class General(Shape):
 
     def proved(self, left: Sequence[Premise], essential: Sequence[int]) -> Iterator[None]:
         """The ways in which the premises that are left become free formulas. There are at most
-        MOST_GIVEN, one within the other."""
+        as many, one within the other, as `MOST_PREMISES` of `conventions.py` says."""
         if not left:
             yield
             return

@@ -316,8 +316,8 @@ class Search:
         self, citable: Citable, left: list[Premise], binding: Binding, premises: list[int]
     ) -> bool:
         """Finds the premises that are left among the free formulas, next the one that can be the
-        fewest, and binds the variables that only they have. There are at most MOST_GIVEN, one
-        within the other."""
+        fewest, and binds the variables that only they have. There are at most as many, one
+        within the other, as `MOST_PREMISES` of `conventions.py` says."""
         if not left:
             is_one = self.keeps_distinct(citable, binding)
             return is_one and self.is_enough(citable, binding, premises)

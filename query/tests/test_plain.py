@@ -85,16 +85,15 @@ class Includes(Hostile):
         self.commit(BASE + NOTE)
         self.assertEqual(self.findings(status=0), [])
 
-    def test_a_base_that_nobody_can_read(self) -> None:
+    def test_each_word_behind_any_white_space(self) -> None:
         self.branch()
         for word in ("Begin", "End", "Skip"):
             for space in (" ", "\n", "  \t", "\f", "\r\n"):
                 text = BASE + f"$({space}{word}{space}$[ x.mm $] $)\n"
                 self.commit(text)
-                line = 17 if word and "\n" in space else 16
                 found = [each.split(": ", 1)[1] for each in self.findings()]
                 wanted = self.include(word, "$[", "x.mm", "$]").split(": ", 1)[1]
-                self.assertEqual(found, [wanted], (word, space, line))
+                self.assertEqual(found, [wanted], (word, space))
 
     def test_comments_that_are_none(self) -> None:
         self.branch()

@@ -1,5 +1,6 @@
-"""The module for Python: with how much memory it calls the library, of which this has a stand-in.
-`tests/library` tries the library itself."""
+"""What calls the library: the module for Python, with how much memory it does, beside a library
+that stands in; what pkg-config says of it; and the module for Node. `tests/library` tries the
+library itself."""
 
 import ctypes
 import importlib.util
