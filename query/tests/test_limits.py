@@ -39,7 +39,7 @@ class Lengths(unittest.TestCase):
 
     def test_those_of_javascript(self) -> None:
         text = (TOP / "web" / "limits.js").read_text()
-        found = dict(re.findall(r"const ([A-Z_]+) = ([^;]+);", text))
+        found = dict(re.findall(r"const ([A-Z_]+) = (\d[^;]*);", text))
         numbers = {name: value_of(number) for name, number in found.items()}
         wanted = {
             "MOST_DATABASE_BYTES": limits.MOST_DATABASE_BYTES,
@@ -93,7 +93,7 @@ class Runs(World):
         why = "large.mm: not judged: the text needs more than 8 MB of memory"
         self.refuses("rests", "large.mm", "a2", "--limit-memory", "8", why=why)
         self.nothing_is_kept()
-        self.assertEqual(self.query("rests", "large.mm", "a2", "--limit-memory", "99").status, 0)
+        self.assertEqual(self.query("rests", "large.mm", "a2", "--limit-memory", "199").status, 0)
 
     def test_the_worst_text_of_the_bench(self) -> None:
         """Axioms with half a million pairs of distinct variables each: 2 MB, which take 860."""
