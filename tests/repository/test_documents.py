@@ -141,7 +141,8 @@ def stand_in() -> str:
     lines += [f"{name} $a {formula} $." for name in AXIOMS.split()]
     lines.append(header(3, "b"))
     lines += [f"{name} $p {formula} $= wp wq {cited} $." for name, cited in THEOREMS.items()]
-    lines += [header(1, "Elementary geometry"), header(1, "Mathbox for A B")]
+    lines += [header(1, "Elementary geometry"), header(1, "Complex Hilbert space explorer")]
+    lines += [f"norm3 $p {formula} $= wp wq ax-1 $.", header(1, "Mathbox for A B")]
     lines.append(header(1, "Mathbox for Stefan Allan"))
     lines += ["$( (Contributed by Mario Carneiro, 31-May-2014.) $)"]
     lines += [f"foo3 $p {formula} $= wp wq ax-1 $."]
