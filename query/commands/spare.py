@@ -181,9 +181,7 @@ def run(context: Context, arguments: argparse.Namespace) -> int:
     if arguments.proof is not None:
         context.out.text(new_statement(database, changes, arguments.proof))
     else:
-        empty = f"{database.name}: no theorem was found that can do without"
-        if wanted.is_shorter:
-            empty = f"{database.name}: no shorter proof was found"
+        empty = f"{database.name}: {nothing_found(database, wanted, arguments.axiom)}"
         given_up = [change.theorem for change in changes if change.is_given_up]
         remarks = {GIVEN_UP: given_up, UNREAD: changer.rules.unread}
         rows = rows_of(database, changer.ranked(changes))
@@ -192,6 +190,20 @@ def run(context: Context, arguments: argparse.Namespace) -> int:
     if arguments.write is not None:
         write_new(arguments.write, data)
     return 0
+
+
+def nothing_found(database: Database, wanted: Wanted, axioms: list[str]) -> str:
+    """What is said where there is no row. `axioms` are those that were named."""
+    if wanted.is_shorter:
+        return "no shorter proof was found"
+    dependence = database.dependence()
+    theorems = dependence.theorems if wanted.theorems is None else sorted(wanted.theorems)
+    resting = {row for each in axioms for row in dependence.users(dependence.column(each))}
+    if not axioms or any(dependence.row(each) in resting for each in theorems):
+        return "no theorem was found that can do without"
+    who = shown(theorems[0]) if len(theorems) == 1 else "none of the theorems"
+    verb = "doesn't rest" if len(theorems) == 1 else "rests"
+    return f"{who} {verb} on {shown(axioms[0]) if len(axioms) == 1 else 'any of the axioms'}"
 
 
 def rows_of(database: Database, changes: list[Change]) -> list[list[Value]]:

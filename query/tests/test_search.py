@@ -236,7 +236,8 @@ class Searched(World):
         ):
             done = self.query("search", "--like=b*", "--", "db.mm", pattern)
             self.assertEqual((done.status, done.out), (0, ""), pattern)
-            self.assertEqual(done.err, f"mmquery: db.mm: no formula has that{said}\n", pattern)
+            nothing = f"no formula has that among what passes --like 'b*'{said}"
+            self.assertEqual(done.err, f"mmquery: db.mm: {nothing}\n", pattern)
         self.assertEqual(self.found("--like=b*", "db.mm", "Foo -> Q x"), [("b2", None)])
 
     def test_brackets_that_are_left_out(self) -> None:
@@ -255,7 +256,8 @@ class Searched(World):
         ):  # fmt: skip
             done = self.query("search", "--like=b*", "--", "db.mm", pattern)
             self.assertEqual((done.status, done.out), (0, ""), pattern)
-            self.assertEqual(done.err, f"mmquery: db.mm: no formula has that{said}\n", pattern)
+            nothing = f"no formula has that among what passes --like 'b*'{said}"
+            self.assertEqual(done.err, f"mmquery: db.mm: {nothing}\n", pattern)
             if said:
                 self.assertEqual(len(self.found("--like=b*", "db.mm", said.split("'")[1])), 1)
 

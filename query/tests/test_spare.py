@@ -89,6 +89,16 @@ class Spare(World):
         done = self.query("spare", "db.mm", "near")
         self.assertEqual((done.out, done.status), ("", 0))
         self.assertIn("no theorem was found that can do without", done.err)
+        for words, said in (
+            (("far", "--theorem", "t1"), "t1 doesn't rest on far"),
+            (("up", "far", "--theorem", "t1", "--theorem", "t2"),
+             "none of the theorems rests on any of the axioms"),
+            (("up",), "none of the theorems rests on up"),
+            (("bad", "far", "--theorem", "t2"), "no theorem was found that can do without"),
+        ):  # fmt: skip
+            done = self.query("spare", "db.mm", *words)
+            self.assertEqual((done.status, done.out), (0, ""), words)
+            self.assertIn(f"mmquery: db.mm: {said}\n", done.err, words)
         self.write("small.mm", SMALL)
         done = self.query("spare", "small.mm", "--shorter")
         self.assertEqual(done.err, "mmquery: small.mm: no shorter proof was found\n")
