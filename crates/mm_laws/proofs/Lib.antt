@@ -3,8 +3,8 @@
 -- (`TheoremLaw.antt`), `is_sound_or_faulty` (`SomeFaultLaw.antt`) and `output_exists_for_text`
 -- (`SomeOutputLaw.antt`). Uniqueness goes from `stopped_no_forest` (`StackRunLaw.antt`) to
 -- `excludes` (`ExcludedLaw.antt`), `no_both_faults`, `proof_fault_is_unique` and
--- `output_is_unique_for_text` (`OneOutputLaw.antt`). Letters have `spelled_items_are_unique` (`SpellingLaw.antt`).
--- `variables_are_typed_where_read` and
+-- `output_is_unique_for_text` (`OneOutputLaw.antt`). Letters have `spelled_items_are_unique`
+-- (`SpellingLaw.antt`). `variables_are_typed_where_read` and
 -- `variables_are_mandatory_where_read` (`TypedLaw.antt`) are about frames. `valid_iff_proved`
 -- (`MeaningLaw.antt`) combines the laws on well formed proofs and on what steps are. What is said
 -- of each place of what was read (`WhereRead`) is proved of the statements as they count, with open
