@@ -6,6 +6,7 @@ Theorems may be `kept`: they rest on it whatever is done, so a chain may end at 
 
 from collections.abc import Callable, Iterator, Sequence, Set
 from dataclasses import dataclass, field
+from itertools import islice
 
 from query.citations.graph import Graph
 
@@ -293,6 +294,13 @@ def freed(graph: Graph, end: int, again: set[int], kept: frozenset[int] = NOTHIN
     return found
 
 
+BEYOND = 5
+"""So many theorems more are chosen than a plan has, and then left out again."""
+MOST_MENDED = 30
+"""A plan of more theorems is what was chosen first: it takes a walk over the file for each theorem
+that could be left out."""
+
+
 @dataclass(frozen=True)
 class Advance:
     """A step of a plan: a theorem to prove without `end`, how many theorems it frees beside those
@@ -323,3 +331,57 @@ def plan(
         total += more
         done.add(theorem)
         yield Advance(theorem, more, total)
+
+
+class Remaining:
+    """Which theorems rest on `end`, and aren't kept, with what each cites of those that do: for
+    many sets of theorems that are proved anew it is counted how many they free."""
+
+    def __init__(self, graph: Graph, end: int, kept: frozenset[int]) -> None:
+        above = graph.above([end])
+        self.resting = {end} | (kept & above)
+        self.cites = [
+            (node, [cited for cited in graph.cites[node] if cited in above])
+            for node in sorted(above - self.resting)
+        ]
+
+    def freed(self, again: Set[int]) -> int:
+        """How many of them these theorems free, themselves included."""
+        still = set(self.resting)
+        for node, cited in self.cites:
+            if node not in again and not still.isdisjoint(cited):
+                still.add(node)
+        return len(self.cites) + len(self.resting) - len(still)
+
+
+def mended_plan(
+    graph: Graph,
+    end: int,
+    kept: frozenset[int],
+    again: Set[int],
+    may: Callable[[int], bool],
+    steps: int,
+    tell: Callable[[str], object],
+) -> list[Advance]:
+    """A plan of so many theorems at the most. What is chosen first may be needless once all are
+    chosen: so BEYOND more are chosen, and then the one that is missed least is left out, again and
+    again. Where what is left frees more than the first ones do, it is the plan. `tell` gets how far
+    it is."""
+    longer: list[Advance] = []
+    for each in islice(plan(graph, end, kept, again, may), steps + BEYOND):
+        longer.append(each)
+        tell(f"{len(longer)} of {steps + BEYOND} theorems chosen")
+    if steps > MOST_MENDED or len(longer) <= steps:
+        return longer[:steps]
+    remaining = Remaining(graph, end, kept)
+    left = {each.theorem for each in longer}
+    total = 0
+    while len(left) > steps:
+        tell(f"leaving out {len(left) - steps} of {len(left)} theorems")
+        total, dropped = max((remaining.freed(again | left - {each}), each) for each in left)
+        left.remove(dropped)
+    if total <= longer[steps - 1].total:
+        return longer[:steps]
+    chosen = [*plan(graph, end, kept, again, left.__contains__)]
+    done = {*again, *(each.theorem for each in chosen)}
+    return chosen + [*islice(plan(graph, end, kept, done, may), steps - len(chosen))]

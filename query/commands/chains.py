@@ -92,7 +92,9 @@ freed    how many theorems it frees besides, itself included
 total    how many are free by then
 theorem  the label of the theorem
 
-A plan looks one theorem ahead, so another choice of N theorems may free more together.
+Each is the one that frees most next. Of a longer plan some are left out then, the one that is
+missed least first; where that frees more with N theorems, it is the plan. Another choice of N may
+free still more.
 
 With --given T, theorems that have such a proof already: this is about the others, and `total`
 counts what is free by T too. The filters choose which theorems a plan may take.
@@ -410,13 +412,20 @@ def put_plan(context: Context, asked: Asked, steps: int) -> None:
     """Lists the theorems of a plan."""
     graph, end, kept = asked.graph, asked.end, asked.kept
     passes = context.test()
-    advances = cuts.plan(graph, end, kept, asked.given, lambda node: passes(graph.labels[node]))
+    advances = cuts.mended_plan(
+        graph,
+        end,
+        kept,
+        asked.given,
+        lambda node: passes(graph.labels[node]),
+        steps,
+        progress.now,
+    )
     rows: list[list[Value]] = []
     chosen: list[int] = []
-    for each in islice(advances, steps):
+    for each in advances:
         chosen.append(each.theorem)
         rows.append([each.freed, each.total, graph.labels[each.theorem]])
-        progress.now(f"{len(rows)} of {steps} theorems chosen")
     context.out.table(["freed", "total", "theorem"], rows)
     resting = graph.above([end]) - {end}
     if rows:

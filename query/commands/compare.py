@@ -43,13 +43,16 @@ others; with AXIOM.., all lines are about these.
            differ, and the pairs of distinct variables that only one of both has. Where one of them
            is long, they are cut: `..` stands for what is left out
   how      for `changed` what the new statement is beside the old one, as far as one step shows it:
-           weaker   the same, with more hypotheses or more conditions of distinct variables
+           weaker   the same, with more hypotheses or more conditions of distinct variables; or what
+                    an inference of both databases gives from the old one or an instance of it, such
+                    as `a1i` of set.mm, which puts an antecedent before a formula. Inferences have
+                    one hypothesis, which is a variable, and no conditions of distinct variables
            instance what the old one says with other formulas for its variables
            stronger the old one is weaker than the new one
            general  the old one is an instance of the new one
            same     each of both says what the other says
            Where there is nothing, none of these was seen; one may follow from the other by more
-           than one step. Only the first 2000 changed statements are looked at
+           than one step, or by another one. Only the first 2000 changed statements are looked at
 
 First come the theorems, in file order, then each axiom with what was gained and lost of it. With
 AXIOM.. a changed theorem is listed where only one of its statements rests on one of these. What
@@ -72,23 +75,27 @@ def configure(parser: Parser) -> None:
 @dataclass(frozen=True)
 class Telling:
     """How changed statements are told: with so many characters at the most, and how the new one is
-    related to the old one, by labels."""
+    related to the old one, by labels; "" where nothing is seen of it."""
 
     most: int
     hows: Mapping[str, str]
 
 
 def hows_of(comparison: Comparison) -> dict[str, str]:
-    """For each assertion that was changed how its new statement is related to the old one."""
+    """For each assertion that was changed how its new statement is related to the old one; "" where
+    nothing is seen of it. Those that can't be compared, and those that are too many, are left out.
+    """
     told = comparison.differences
     labels = [*comparison.axioms.changed, *comparison.theorems.changed]
     if not labels:
         return {}
-    syntax = [*comparison.text.assertions, *told.gone.values()]
+    assertions = comparison.text.assertions
+    syntax = [*assertions, *told.gone.values()]
+    of_both = (one for one in assertions if one.label not in told.new)
     pairs = [(told.gone[label], told.new[label]) for label in labels]
     typecode = comparison.new.database.options.only or "|-"
-    found = zip(labels, relations(syntax, pairs, typecode))
-    return {label: how for label, how in found if how}
+    found = zip(labels, relations(syntax, of_both, pairs, typecode))
+    return {label: how for label, how in found if how is not None}
 
 
 def change_rows(comparison: Comparison, kind: str, telling: Telling) -> Iterator[Row]:
@@ -100,7 +107,7 @@ def change_rows(comparison: Comparison, kind: str, telling: Telling) -> Iterator
     for label, old in pairing.renamed.items():
         yield ("renamed", kind, label, old, *nothing)
     for each in changes(comparison, kind, telling.most, telling.hows):
-        yield ("changed", kind, each.label, None, None, None, None, *each[1:])
+        yield ("changed", kind, each.label, None, None, None, None, *each.values())
     for label in pairing.gone:
         yield ("gone", kind, label, None, *nothing)
 
@@ -206,15 +213,15 @@ def run(context: Context, arguments: argparse.Namespace) -> int:
     context.table(COLUMNS, rows, empty, aside=BOTH, remarks=remarks)
     if context.out.format == "text":
         changed = [row for row in rows if row[0] == "changed"]
-        for line in lines_of(change_in(row) for row in changed):
+        for line in lines_of(change_in(row, telling) for row in changed):
             context.out.line(line)
     return 0
 
 
-def change_in(row: Row) -> Change:
+def change_in(row: Row, telling: Telling) -> Change:
     """What a row says that was changed."""
-    differ, old, new, how = row[-len(BOTH) :]
-    return Change(str(row[2]), str(differ), str(old), str(new), None if how is None else str(how))
+    label, (differ, old, new, _) = str(row[2]), row[-len(BOTH) :]
+    return Change(label, str(differ), str(old), str(new), telling.hows.get(label))
 
 
 COMMANDS = [Command("compare", PAGE, configure, run)]

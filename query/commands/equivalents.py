@@ -27,7 +27,8 @@ as ax-ac2 does for ax-ac, counts as proved; --without ax-ac2 gives that axiom up
 how        equivalent: AX gives it
            stronger: it isn't known that AX gives it; it may even be false
            proved: an assertion states it that rests on nothing that is given up, so the others
-           give AX; label is such an assertion then, and standard error names the first one
+           give AX; label is such an assertion then. Standard error names the first one, and which
+           axiom to give up besides, so that what it proves is told as equivalent
 label      an assertion that states it; nothing where there is none
 by         the links from the statement to AX; nothing where it says what AX says
 from       how AX gives it: what states it, or the links from AX to it
@@ -70,13 +71,21 @@ def run(context: Context, arguments: argparse.Namespace) -> int:
     context.table(COLUMNS, rows, why, aside=[] if is_chosen else ["rests"])
     proved = next((row for row in rows if row[0] == "proved"), None)
     if proved is not None:
-        context.tell(f"{database.name}: the others give {arguments.axiom}, by {proved[1]}")
+        named = ",".join([*others, *last_of(proved[-1])])
+        advice = f"; --without {named} gives more of them up" if named else ""
+        context.tell(f"{database.name}: the others give {arguments.axiom}, by {proved[1]}{advice}")
     return 0
 
 
 def labels_above(graph: Graph, labels: Iterable[str]) -> set[str]:
     """These labels, and those of all theorems that rest on one of them."""
     return {graph.labels[node] for node in graph.above(map(graph.node, labels))}
+
+
+def last_of(rests: Value) -> list[str]:
+    """The last of the axioms of a row, which is the likeliest to say as much as the one that is
+    asked about; none where there are none."""
+    return [str(each) for each in rests[-1:]] if isinstance(rests, list) else []
 
 
 def row_of(database: Database, search: Search, found: Found) -> list[Value]:

@@ -35,17 +35,17 @@ Writes the graph of citations: an arrow leads from each theorem to what its proo
 THEOREM, only what that rests on; with ON too, only the chains from THEOREM to ON. Axioms that
 nothing cites aren't in it.
 
---as dot      for Graphviz; axioms are boxes
+--as dot      for `dot`, a program of Graphviz, which makes pictures of it; axioms are boxes
 --as graphml  for NetworkX and Gephi; the data `kind` of a node is `axiom` or `theorem`
 --as edges    a line for each citation: the theorem, a space, and what it cites
 
 Of THEOREM's graph, --depth N has what at most N citations lead to, with all citations between
-these; where ON is farther away, standard error says how far. --through LABEL has only the chains
-that lead through LABEL. --landmarks N has only THEOREM, ON and the N theorems in which most of it
-comes together: those to whose proofs alone most is due, counted where chains part. An arrow then
-stands for chains through none of the others, and there is none beside a longer way. So chains may
-lead past a landmark; what all of them lead through is said by `why --unavoidable`. As DOT an arrow
-is dashed where it is no citation, and each node says in which chapter it stands.
+these; standard error says how much is farther away, or how far ON is. --through LABEL has only the
+chains that lead through LABEL. --landmarks N has only THEOREM, ON and the N theorems in which most
+of it comes together: those to whose proofs alone most is due, counted where chains part. An arrow
+then stands for chains through none of the others, and there is none beside a longer way. So chains
+may lead past a landmark; what all of them lead through is said by `why --unavoidable`. As DOT an
+arrow is dashed where it is no citation, and each node says in which chapter it stands.
 
   $ mmquery graph set.mm zorn ax-ac2 --as dot
   $ mmquery graph set.mm stirling --landmarks 25 | dot -Tsvg > stirling.svg
@@ -91,6 +91,8 @@ def run_graph(context: Context, arguments: argparse.Namespace) -> int:
         context.tell(why_empty(graph, arguments))
     elif arguments.depth is not None and arguments.on is not None:
         tell_too_deep(context, graph, arguments)
+    elif arguments.depth is not None:
+        tell_cut(context, graph, arguments)
     is_of_one = arguments.theorem is not None
     if arguments.form == "edges":
         lines = edges(part)
@@ -152,6 +154,17 @@ def tell_too_deep(context: Context, graph: Graph, arguments: argparse.Namespace)
         context.tell(
             f"{graph.name}: the graph ends before {shown(arguments.on)}: a shortest chain from"
             f" {shown(arguments.theorem)} has {len(chain) - 1} citations"
+        )
+
+
+def tell_cut(context: Context, graph: Graph, arguments: argparse.Namespace) -> None:
+    """Says how much of what THEOREM rests on is too far away for the graph."""
+    start = graph.node(arguments.theorem)
+    farther = len(graph.below([start]) - subgraphs.within(graph, start, arguments.depth) - {start})
+    if farther > 0:
+        context.tell(
+            f"{graph.name}: the graph ends behind {arguments.depth} citations:"
+            f" {shown(arguments.theorem)} rests on {farther} more assertions"
         )
 
 

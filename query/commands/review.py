@@ -95,7 +95,7 @@ class Outcome:
     def row(self) -> list[Value]:
         """Its row of the table."""
         lists = [self.gained, self.lost, self.via]
-        both = [None] * len(BOTH) if self.change is None else self.change[1:]
+        both = [None] * len(BOTH) if self.change is None else self.change.values()
         return [self.label, self.status, self.was, self.axioms, *lists, self.bytes, *both]
 
 

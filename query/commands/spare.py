@@ -172,6 +172,12 @@ def run(context: Context, arguments: argparse.Namespace) -> int:
     if arguments.write is not None:
         see_missing(arguments.write)
     wanted = wanted_of(database, arguments)
+    nowhere = nothing_to_lose(database, wanted, arguments)
+    if nowhere:
+        context.table(COLUMNS, [], f"{database.name}: {nowhere}", aside=ASIDE)
+        if arguments.write is not None:
+            write_new(arguments.write, database.text.data)
+        return 0
     changer = Changer(database, wanted, arguments.jobs)
     changes = list(changer.changes())
     if not wanted.is_shorter:
@@ -181,29 +187,37 @@ def run(context: Context, arguments: argparse.Namespace) -> int:
     if arguments.proof is not None:
         context.out.text(new_statement(database, changes, arguments.proof))
     else:
-        empty = f"{database.name}: {nothing_found(database, wanted, arguments.axiom)}"
+        found_none = "no theorem was found that can do without"
+        empty = "no shorter proof was found" if wanted.is_shorter else found_none
         given_up = [change.theorem for change in changes if change.is_given_up]
         remarks = {GIVEN_UP: given_up, UNREAD: changer.rules.unread}
         rows = rows_of(database, changer.ranked(changes))
         aside = [name for name in ASIDE if all(row[COLUMNS.index(name)] is None for row in rows)]
-        context.table(COLUMNS, rows, empty, aside=aside, remarks=remarks)
+        context.table(COLUMNS, rows, f"{database.name}: {empty}", aside=aside, remarks=remarks)
     if arguments.write is not None:
         write_new(arguments.write, data)
     return 0
 
 
-def nothing_found(database: Database, wanted: Wanted, axioms: list[str]) -> str:
-    """What is said where there is no row. `axioms` are those that were named."""
-    if wanted.is_shorter:
-        return "no shorter proof was found"
+def nothing_to_lose(database: Database, wanted: Wanted, arguments: argparse.Namespace) -> str:
+    """That none of the theorems that are asked about rests on an axiom that was named; "" where one
+    does. This is known without the search, which may take long. NoAnswer where a new proof is to be
+    printed, which there can't be."""
     dependence = database.dependence()
+    axioms: list[str] = arguments.axiom
     theorems = dependence.theorems if wanted.theorems is None else sorted(wanted.theorems)
+    if arguments.proof is not None:
+        dependence.see_theorem(arguments.proof)
+        theorems = [arguments.proof]
     resting = {row for each in axioms for row in dependence.users(dependence.column(each))}
     if not axioms or any(dependence.row(each) in resting for each in theorems):
-        return "no theorem was found that can do without"
+        return ""
     who = shown(theorems[0]) if len(theorems) == 1 else "none of the theorems"
     verb = "doesn't rest" if len(theorems) == 1 else "rests"
-    return f"{who} {verb} on {shown(axioms[0]) if len(axioms) == 1 else 'any of the axioms'}"
+    where = f"{who} {verb} on {shown(axioms[0]) if len(axioms) == 1 else 'any of the axioms'}"
+    if arguments.proof is not None:
+        raise NoAnswer(f"{database.name}: {where}, so it gets no new proof")
+    return where
 
 
 def rows_of(database: Database, changes: list[Change]) -> list[list[Value]]:

@@ -29,6 +29,7 @@ HOW = {
     "instance": "the new one is an instance of the old one",
     "stronger": "the new one is stronger",
     "general": "the old one is an instance of the new one",
+    "": "whether it is weaker or stronger isn't seen",
 }
 """What a statement is beside the one that its label had before, in words."""
 MOST_PAIRS = 10_000
@@ -39,13 +40,18 @@ SHOWN_STATEMENT, TOLD_STATEMENT = 300, 1000
 
 class Change(NamedTuple):
     """An assertion that was changed: in what its statements differ, in words, both of them, and how
-    the new one is related to the old one, one of HOW, None where that isn't known."""
+    the new one is related to the old one, one of HOW, None where that isn't looked at."""
 
     label: str
     differ: str
     old: str
     new: str
     how: str | None = None
+
+    def values(self) -> tuple[str | None, ...]:
+        """What stands in the columns. A program isn't told that nothing was seen, since that isn't
+        how they are related."""
+        return (self.differ, self.old, self.new, self.how or None)
 
 
 def most_of(form: str) -> int:
@@ -60,7 +66,7 @@ def changes(
     hows: Mapping[str, str] = MappingProxyType({}),
 ) -> Iterator[Change]:
     """The theorems that were changed, or the axioms, in the order of NEW. `hows` has for their
-    labels how both statements are related, where that is known."""
+    labels how both statements are related, where that is looked at."""
     pairing = comparison.theorems if kind == "theorem" else comparison.axioms
     told = comparison.differences
     for label, differ in pairing.changed.items():
@@ -111,8 +117,9 @@ def pairs_lacking(some: dict[Pair, None], other: dict[Pair, None]) -> str:
 
 def in_words(change: Change) -> str:
     """In what both statements differ, and how the new one is related to the old one."""
-    is_said = change.how is None or change.differ in SAME_THEOREM
-    return change.differ if is_said else f"{change.differ}; {HOW[str(change.how)]}"
+    if change.how is None or change.differ in SAME_THEOREM:
+        return change.differ
+    return f"{change.differ}; {HOW[change.how]}"
 
 
 def lines_of(changes: Iterable[Change]) -> Iterator[str]:

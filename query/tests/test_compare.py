@@ -9,7 +9,13 @@ from itertools import permutations, product
 from unittest import mock
 
 from query.comparisons.changed_statements import HOW
-from query.comparisons.pairing import OTHER_NAMES, are_alike, difference, statement_of
+from query.comparisons.pairing import (
+    OTHER_NAMES,
+    SAME_THEOREM,
+    are_alike,
+    difference,
+    statement_of,
+)
 from query.tests import replay
 from query.tests.world import SMALL, World, asked, built_program, database_text
 from query.texts.assertions import Assertion
@@ -340,7 +346,8 @@ class Restated(World):
             self.assertEqual(told, both, changes)
             self.assertNotEqual(row["old"], row["new"])
             lines = self.query("compare", "old.mm", "new.mm").lines()
-            how = f"; {HOW[str(row['how'])]}" if row["how"] else ""
+            is_same = row["differ"] in SAME_THEOREM
+            how = "" if is_same else f"; {HOW[str(row['how'] or '')]}"
             self.assertEqual(lines[2:], ["", f"{label}: {row['differ']}{how}"] + lines[4:])
             shown = [f"  was  {row['old']}", f"  is   {row['new']}"]
             self.assertEqual(lines[4:], shown)
