@@ -13,7 +13,7 @@ _mmdepend() {
     case $before in
         # begin options: made by `python3 -m tables`; change crates/mm_line or tables/words.py instead
         --only) typed="'|-'" ;;
-        --report) list='all matrix counts usage citations statements' ;;
+        --report) list='all matrix counts usage citations proofs statements' ;;
         --form) words='1 2' ;;
         --against) ;;
         --workers) words='1 2 4 8 16 32 64' ;;

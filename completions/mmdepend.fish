@@ -2,7 +2,7 @@
 
 # begin options: made by `python3 -m tables`; change crates/mm_line or tables/words.py instead
 complete -c mmdepend -l only -x -a "'|-'" -d 'Report on the axioms of this typecode alone'
-complete -c mmdepend -l report -x -a '(__fish_append , all matrix counts usage citations statements)' -d 'Write these parts of the report'
+complete -c mmdepend -l report -x -a '(__fish_append , all matrix counts usage citations proofs statements)' -d 'Write these parts of the report'
 complete -c mmdepend -l form -x -a '1 2' -d 'A digit for each column, or for each four'
 complete -c mmdepend -l essential -d 'Count what the logical part of a proof cites'
 complete -c mmdepend -l open -d 'Count a theorem whose proof is ? as an axiom'

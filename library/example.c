@@ -5,8 +5,8 @@
  *
  * It is C11, since `aligned_alloc` is; for the header C99 is enough.
  *
- * PARTS are matrix, counts, usage, citations and statements, with commas between them, or all: the
- * first three.
+ * PARTS are matrix, counts, usage, citations, proofs and statements, with commas between them, or
+ * all: the first three.
  * ROOM and OUT are how many bytes of memory are lent at first; where they are too few, more are. The
  * status is that of the program: 0 for a report, 1 for a refusal, 2 to 4 for what failed. */
 #include "mmdepend.h"
@@ -25,6 +25,7 @@ static const struct {
              {"counts", MMDEPEND_COUNTS},
              {"usage", MMDEPEND_USAGE},
              {"citations", MMDEPEND_CITATIONS},
+             {"proofs", MMDEPEND_PROOFS},
              {"statements", MMDEPEND_STATEMENTS}};
 
 /* The bits of a part whose name has this length; 0 if there is none. */

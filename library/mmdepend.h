@@ -60,7 +60,8 @@ enum mmdepend_section {
     MMDEPEND_USAGE = 4,
     MMDEPEND_ALL = 7, /* matrix, counts, usage */
     MMDEPEND_CITATIONS = 8,
-    MMDEPEND_STATEMENTS = 16
+    MMDEPEND_STATEMENTS = 16,
+    MMDEPEND_PROOFS = 32
     /* end sections */
 };
 

@@ -32,7 +32,15 @@ def __dir__() -> list[str]:
 
 # The parts of a report by their names, each with its bit. `all` are the first three of the others.
 # begin sections: made by `python3 -m tables`; change crates/mm_library instead
-PARTS = {"all": 7, "matrix": 1, "counts": 2, "usage": 4, "citations": 8, "statements": 16}
+PARTS = {
+    "all": 7,
+    "matrix": 1,
+    "counts": 2,
+    "usage": 4,
+    "citations": 8,
+    "proofs": 32,
+    "statements": 16,
+}
 # end sections
 USAGE = PARTS["usage"]
 NAMES = ("libmmdepend.so.0", "libmmdepend.so")
@@ -320,12 +328,12 @@ def report(
 ) -> bytes:
     """Verifies a database and returns the bytes of its report, as the program writes them.
 
-    `text` is the database. `part` is what is reported: `matrix`, `counts`, `usage`, `citations`
-    and `statements`, one or more of them with commas between them, or `all`: the first three.
-    `only` is the typecode of the axioms that are columns, such as `|-`; if it is None, all axioms
-    are. `form` is how the matrix is written: 1 a digit for each column, 2 a hexadecimal digit for
-    every four. With `essential` a theorem cites only what the logical part of its proof applies,
-    and with `open_theorems` a theorem whose proof is `?` counts as an axiom.
+    `text` is the database. `part` is what is reported: `matrix`, `counts`, `usage`,
+    `citations`, `proofs` and `statements`, one or more of them with commas between them, or `all`:
+    the first three. `only` is the typecode of the axioms that are columns, such as `|-`; if it is
+    None, all axioms are. `form` is how the matrix is written: 1 a digit for each column, 2 a
+    hexadecimal digit for every four. With `essential` a theorem cites only what the logical part of
+    its proof applies, and with `open_theorems` a theorem whose proof is `?` counts as an axiom.
 
     Raises Refused if the database has a fault, ValueError if there is no such part or form, or
     `only` can't be written as UTF-8, TypeError if an argument has another type, MemoryError if

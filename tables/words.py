@@ -40,7 +40,8 @@ OPTIONS = {
     "report": Words(
         "write these parts of the report",
         "Write these parts of the report, with commas between them: `matrix`, `counts`, `usage`, "
-        "`citations` (what each theorem cites in its own proof), `statements` "
+        "`citations` (what each theorem cites in its own proof), `proofs` "
+        "([the steps of each proof](REPORT.md#proofs)), `statements` "
         "([what each assertion says](REPORT.md#statements)), or `all` (the default: matrix, counts "
         "and usage). They stand in this order, whatever order they are named in.",
         kind="parts",

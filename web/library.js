@@ -8,7 +8,7 @@ import { Status } from "./statuses.js";
 
 // begin sections: made by `python3 -m tables`; change crates/mm_library instead
 /** The sections of a report, each with its bit; `all` are those where none is named. */
-const BITS = { all: 7, matrix: 1, counts: 2, usage: 4, citations: 8, statements: 16 };
+const BITS = { all: 7, matrix: 1, counts: 2, usage: 4, citations: 8, proofs: 32, statements: 16 };
 /**
  * What the program is asked without options.
  * @type {Request}

@@ -3,8 +3,8 @@ export interface Request {
     // begin request: made by `python3 -m tables`; change crates/mm_line or tables/words.py instead
     /** The typecode of the axioms; without it, of whatever typecode they are. */
     only?: string | null;
-    /** Names of sections with commas between them: `matrix`, `counts`, `usage`, `citations`, `statements`, or `all`, which
-     * is the first three and the default. */
+    /** Names of sections with commas between them: `matrix`, `counts`, `usage`, `citations`, `proofs`, `statements`, or
+     * `all`, which is the first three and the default. */
     report?: string;
     /** The form of the matrix: one digit per column, or one hexadecimal digit per four. */
     form?: 1 | 2;

@@ -20,7 +20,10 @@ from query.citations.marks import Marks, bit, marks_of_rows, mask, width_of
 from query.reports.content import ReportContent
 from query.texts.assertions import LINE
 
-SECTIONS = ("matrix", "counts", "usage", "citations", "statements")
+SECTIONS = ("matrix", "counts", "usage", "citations", "proofs", "statements")
+WITHOUT_COLUMNS = ("citations", "proofs")
+"""Sections that say the same whatever the columns are."""
+STEP = re.compile(r"[A-Za-z0-9._-]+|\*(?P<repeated>[1-9][0-9]{0,9})")
 LABELS = re.compile(r"[A-Za-z0-9._-]+(?:\n[A-Za-z0-9._-]+)*")
 WRONG_COUNT = "the number isn't that of the labels after it"
 NUMBER = re.compile(r"0|[1-9][0-9]{0,9}")
@@ -125,16 +128,22 @@ class SectionReader:
         """Reads all sections."""
         if len({each.theorems for each in self.sections.values()}) > 1:
             self.differ("theorems")
-        if len({each.axioms for name, each in self.sections.items() if name != "citations"}) > 1:
+        if len({each.axioms for each in self.with_columns()}) > 1:
             self.differ("axioms")
         self.found.axioms = max((each.axioms for each in self.sections.values()), default=0)
         self.read_theorems()
         self.read_columns()
         known = CitationReader(self).read() if "citations" in self.sections else None
         self.read_marks(known if "usage" in self.sections else None)
+        if "proofs" in self.sections:
+            self.check_proofs()
         if "statements" in self.sections:
             self.check_statements()
         return self.found
+
+    def with_columns(self) -> list[Section]:
+        """The sections that are about the axioms of the head."""
+        return [each for name, each in self.sections.items() if name not in WITHOUT_COLUMNS]
 
     def differ(self, what: str) -> NoReturn:
         """Raises NoAnswer: the sections are of different databases."""
@@ -160,7 +169,7 @@ class SectionReader:
 
     def read_theorems(self) -> None:
         """The labels of theorems, which have to be the same in each section."""
-        for name in ("matrix", "counts", "citations"):
+        for name in ("matrix", "counts", *WITHOUT_COLUMNS):
             if name not in self.sections:
                 continue
             labels = self.labels_of(name)
@@ -192,7 +201,7 @@ class SectionReader:
     def read_marks(self, marks: Marks | None) -> None:
         """The marks, from each section that has them, beside those that citations give. Without
         `usage` the columns have no names, so the sections are only checked."""
-        heads = [each.axioms for name, each in self.sections.items() if name != "citations"]
+        heads = [each.axioms for each in self.with_columns()]
         if not heads or not self.has_theorems:
             return
         columns = heads[0]
@@ -267,6 +276,19 @@ class SectionReader:
         for number, line in enumerate(self.lines("counts")):
             if line.partition(":")[2] != str(marks.row(number).bit_count()):
                 self.damaged("counts", number, "another number than that of the marks")
+
+    def check_proofs(self) -> None:
+        """The steps of the section `proofs`: each is a label, or the number of a step before it."""
+        for number, line in enumerate(self.lines("proofs")):
+            words = fields(line)
+            if words is None:
+                self.damaged("proofs", number, WRONG_COUNT)
+            if not words:
+                self.damaged("proofs", number, "a proof has steps")
+            for place, word in enumerate(words):
+                match = STEP.fullmatch(word)
+                if match is None or int(match["repeated"] or 0) > place:
+                    self.damaged("proofs", number, f"'{word}' is no step that can stand here")
 
     def check_statements(self) -> None:
         """Compares the section `statements` with the labels of the others, and with the head."""
@@ -374,8 +396,8 @@ class CitationReader:
 
 
 def fields(line: str) -> list[str] | None:
-    """The labels of a line of `usage` or `citations`; None where their number isn't what it
-    says."""
+    """The words of a line of `usage`, `citations` or `proofs`; None where their number isn't what
+    it says."""
     parts = line.split(":")
     if len(parts) != 3:
         return None

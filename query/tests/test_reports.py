@@ -67,6 +67,16 @@ class Reports(World):
         for row in ("E", "f", "0", "g", " ", "ee", ""):
             self.damaged(text.replace("a1i:e", f"a1i:{row}") + self.cites, "", line)
 
+    def test_steps_that_no_proof_has(self) -> None:
+        text = self.marks + self.report("small.mm", "--report=proofs")
+        line = text[: text.index("\na1i:9:")].count("\n") + 2
+        for steps in ("wp wq *1 wi h", "wp *2 wp wi h"):
+            self.write("report", text.replace("wp wq wp wi h", steps))
+            self.assertEqual(self.answers("rests", "report", "a2"), ["wi", "ax-1", "ax-mp"])
+        for steps in ("wp wq wp wi", "wp wq *3 wi h", "wp wq *0 wi h", "wp wq * wi h"):
+            self.damaged(text.replace("wp wq wp wi h", steps), "", line)
+        self.damaged(text.replace("\na1i:9:", "\na1j:9:"), "another section has 'a1i' here", line)
+
     def test_every_beginning_is_cut_off(self) -> None:
         text = self.marks + self.cites
         for end in range(len(text)):

@@ -48,7 +48,7 @@ const CHOICES = {
 };
 /** @type {Record<string, string[]>} */
 const LISTS = {
-    report: ["all", "matrix", "counts", "usage", "citations", "statements"],
+    report: ["all", "matrix", "counts", "usage", "citations", "proofs", "statements"],
 };
 const HELP = `Verifies a Metamath database and reports on which axioms each theorem rests
 
@@ -61,7 +61,7 @@ Options:
       --workers <N>    Check the proofs by N threads, 1 to 64 [default: 4]
       --pieces <N>     Read the text in N pieces, 1 to 64 [default: 4]
       --only <T>       Report on the axioms of typecode T alone, such as '|-'
-      --report <PART>  Write these parts of the report, with commas between them: matrix, counts, usage, citations, \
+      --report <PART>  Write these parts of the report, with commas between them: matrix, counts, usage, citations, proofs, \
 statements, or all, which is the first three [default: all]
       --form <N>       Write the matrix as a digit for each column, or for each four [default: 1] [possible values: 1, 2]
       --essential      Count what the logical part of a proof cites, and not what builds its formulas

@@ -29,7 +29,7 @@
 
 /** @typedef {Map<string, Uint8Array>} PackedBlocks the blocks that were packed, by their names */
 
-/** @typedef {"all" | "matrix" | "counts" | "usage" | "citations" | "statements"} ReportName */
+/** @typedef {"all" | "matrix" | "counts" | "usage" | "citations" | "proofs" | "statements"} ReportName */
 
 /**
  * What a worker tells: how far it is, what it made, or why it made nothing. `part` is from 0 to 1.

@@ -1,6 +1,6 @@
 -- A database compared with itself, what is listed of two, and what is gained.
 use Rattle.std.proofs.Common.{◌≡◌, ◌∙◌, ℕ, zero, suc, ◌+◌, ◌<◌, Bool, true, false, ◌&&◌}
-use Rattle.std.proofs.Common.{not, List, [], ◌∷◌, length, map, Option, refl, sym, ap, ap₂, arith}
+use Rattle.std.proofs.Common.{not, List, [], ◌∷◌, length, map, refl, sym, ap, ap₂, arith}
 use Rattle.std.proofs.Common.{true≢false, slice_get, Some, ◌==◌}
 use Rattle.std.proofs.lemmas.Grind.{common_steps}
 use Rattle.std.proofs.lemmas.Bool.{and_parts, and_from, or_left, lt-ltb, eq-eqb}

@@ -183,7 +183,8 @@ abbrev of_sections : Sections → Form → Request
 of_sections sections form = record without_options { sections = sections; form = form }
 
 report_of_wi2 : report (of_sections default_sections One) None (codes "wi" ∷ codes "ax-1" ∷ [])
-    (record { label = codes "wi2"; marks = true ∷ false ∷ [] } ∷ []) [] []
+    (record { label = codes "wi2"; marks = true ∷ false ∷ [] } ∷ []) []
+    (record { proofs = []; statements = [] })
     ≡ flat_map line (codes "mmdepend 1" ∷ codes "axioms 2" ∷ codes "theorems 1" ∷ codes "matrix"
     ∷ codes "wi2:10" ∷ codes "counts" ∷ codes "wi2:1" ∷ codes "usage" ∷ codes "wi:1:wi2"
     ∷ codes "ax-1:0:" ∷ codes "end" ∷ [])
@@ -195,17 +196,23 @@ report_of_wi2 = refl
 hexadecimal_cells : cells Two (true ∷ false ∷ true ∷ true ∷ true ∷ false ∷ []) ≡ codes "b8"
 hexadecimal_cells = refl
 
--- three sections in their order: the matrix, the citations, the statements
+-- four sections in their order: the matrix, the citations, the proofs, the statements
 report_with_citations :
-    report (of_sections (record no_sections { matrix = true; citations = true; statements = true })
-    Two) None (codes "wi" ∷ [])
+    report (of_sections (record no_sections {
+      matrix = true;
+      citations = true;
+      proofs = true;
+      statements = true;
+    }) Two) None (codes "wi" ∷ [])
     (record { label = codes "a2"; marks = true ∷ [] }
     ∷ record { label = codes "b"; marks = false ∷ [] } ∷ [])
     (record { label = codes "a2"; cited = codes "wi" ∷ codes "a1i" ∷ [] }
-    ∷ record { label = codes "b"; cited = [] } ∷ []) (line (codes "b:p:0:9: $p p"))
+    ∷ record { label = codes "b"; cited = [] } ∷ [])
+    (record { proofs = line (codes "b:1:wp"); statements = line (codes "b:p:0:9: $p p") })
     ≡ flat_map line
     (codes "mmdepend 2" ∷ codes "axioms 1" ∷ codes "theorems 2" ∷ codes "matrix" ∷ codes "a2:8"
-    ∷ codes "b:0" ∷ codes "citations" ∷ codes "a2:2:wi a1i" ∷ codes "b:0:" ∷ codes "statements"
+    ∷ codes "b:0" ∷ codes "citations" ∷ codes "a2:2:wi a1i" ∷ codes "b:0:" ∷ codes "proofs"
+    ∷ codes "b:1:wp" ∷ codes "statements"
     ∷ codes "b:p:0:9: $p p" ∷ codes "end" ∷ [])
 unfolding digits
 report_with_citations = refl

@@ -47,15 +47,25 @@ unfolding statements digits
 line_of_b = refl
 
 -- with the flag the open theorem is told as one
-all_lines : told_lines (statements told_text) (record without_options { with_open = true })
+all_lines :
+    (told_lines (statements told_text) (record without_options { with_open = true })).statements
     ≡ line (codes "e:a:21:30: $a t")
     ++ line (codes "a:p:83:103: $f fx t x $e h |- x $v y $d x y $p |- x")
     ++ line (codes "b:o:123:140: $f gx t x $p |- x")
 unfolding statements digits
 all_lines = refl
 
+-- with the flag the open theorem has no line among the proofs
+proof_lines_of_theorems :
+    (told_lines (statements told_text) (record without_options { with_open = true })).proofs
+    ≡ line (codes "a:2:fy h")
+unfolding statements digits
+proof_lines_of_theorems = refl
+
 lines_of_typecode :
-    told_lines (statements told_text) (record without_options { only = Some (codes "t") })
+    (told_lines (statements told_text) (record without_options {
+      only = Some (codes "t");
+    })).statements
     ≡ line (codes "e:a:21:30: $a t")
 unfolding statements digits
 lines_of_typecode = refl

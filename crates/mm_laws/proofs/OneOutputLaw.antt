@@ -23,7 +23,7 @@ use Rattle.mm_spec.specs.Steps.{Step, label, marked, PlacedStep}
 use Rattle.mm_spec.specs.Valid as proof
 use Rattle.mm_spec.specs.Valid.{Reason, code_of, Fails, StepFails, StepFault, ExpandTo, IsEndCode}
 use Rattle.mm_spec.specs.Citation.{context_at, steps_at, IsValid}
-use Rattle.mm_spec.specs.Report.{Row, CitingRow, report, refusal}
+use Rattle.mm_spec.specs.Report.{Row, CitingRow, ToldLines, report, refusal}
 use Rattle.mm_spec.proofs.RisingListsLaw.{equal_if_same_members}
 use Rattle.mm_spec.specs.Request.{Request}
 use Rattle.mm_spec.specs.declared.Code.{Code}
@@ -435,7 +435,7 @@ citing_row_is_unique db request t r s is_row_r is_row_s =
     ∙ sym is_row_s.1.2)
 
 -- a database has one report
-report_is_unique : (db : List Statement) (opened : Option ℕ) (lines : List ℕ)
+report_is_unique : (db : List Statement) (opened : Option ℕ) (lines : ToldLines)
     → (request : Request) (a b : List ℕ) → IsReportOf db opened lines request a
     → IsReportOf db opened lines request b → a ≡ b
 report_is_unique db opened lines request a b is_report_a is_report_b =

@@ -1,6 +1,6 @@
 -- There is an output.
 use Rattle.std.proofs.Common.{ℕ, Bool, List, Option, None, inl, inr, refl, length, rules, arith}
-use Rattle.mm_spec.specs.Report.{refusal}
+use Rattle.mm_spec.specs.Report.{ToldLines, refusal}
 use Rattle.mm_spec.specs.Statement.{Statement}
 use Rattle.mm_spec.specs.Laws.Complete.{AreComplete}
 use Rattle.mm_spec.specs.Request.{Request}
@@ -22,7 +22,7 @@ cells_are_decided len x with_open db has_no_fault by_essential t a =
     search (rules, arith, rests_on_is_decided, counted_complete, reads_complete)
 
 -- a database without faults has a report
-report_exists : (db : List Statement) (opened : Option ℕ) (lines : List ℕ) (request : Request)
+report_exists : (db : List Statement) (opened : Option ℕ) (lines : ToldLines) (request : Request)
     → AreComplete db → AllAreValid db → (bytes : List ℕ) × IsReportOf db opened lines request bytes
 report_exists db opened lines request all_complete are_valid =
     let rows = rows_of db request all_complete are_valid (theorems db) in

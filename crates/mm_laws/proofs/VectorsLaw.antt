@@ -2,16 +2,19 @@
 use Rattle.std.specs.Prelude.{◌≡◌, ℕ, List, [], ◌∷◌, ◌++◌, Option, Some, None, codes, refl}
 use Rattle.std.specs.Prelude.{flat_map, map, slice_get}
 use Rattle.std.proofs.Common.{true≢false, lit≤, sym}
+use Rattle.std.specs.Fmt.{digits}
 use Rattle.mm_spec.specs.Text.{fault}
 use Rattle.mm_spec.specs.declared.Fault.{Fault}
 use Rattle.mm_spec.specs.Statement.{Statement, provable}
+use Rattle.mm_spec.specs.Report.{line}
 use Rattle.mm_spec.specs.Lawful.{least}
 use Rattle.mm_spec.specs.Derivation.{Trees, none, more}
-use Rattle.mm_spec.specs.Steps.{Step, label, marked, placed}
+use Rattle.mm_spec.specs.Steps.{label, marked, placed}
 use Rattle.mm_spec.specs.CompressedProof.{groups, letters_from, value}
 use Rattle.mm_spec.specs.Valid.{StepFault, not_disjoint}
 use Rattle.mm_spec.specs.Proof.{reading_faults}
 use Rattle.mm_spec.specs.Citation.{context_at, steps_at}
+use Rattle.mm_spec.specs.ProofLine.{proof_steps, proof_line}
 use Rattle.mm_laws.proofs.ReaderLaw.{statements}
 use Rattle.mm_spec.specs.declared.Code.TheVariants.{EmptyProof, IncompleteProof, UnusableLabel}
 use Rattle.mm_spec.specs.declared.Code.TheVariants.{OpenBrackets, BadLetter, OpenNumber}
@@ -30,23 +33,26 @@ with_proof p =
     statements (axioms_and_rule_text ++ codes "${ h $e |- p $. a1i $p |- ( q -> p ) $= " ++ p
     ++ codes " $. $}")
 
-abbrev bare_steps_at : List Statement → ℕ → List Step
-bare_steps_at db k = map (λ s. s.step) (steps_at db k)
-
 -- in the text, the theorem is statement 13
 abbrev compressed_a1i : List Statement
 compressed_a1i = with_proof (codes "( wi ax-1 ax-mp ) ABADZCABEF")
 
-steps_compressed : bare_steps_at compressed_a1i 13
+steps_compressed : proof_steps compressed_a1i 13
     ≡ label 2 ∷ label 3 ∷ label 2 ∷ label 4 ∷ label 12 ∷ label 2 ∷ label 3 ∷ label 5 ∷ label 9 ∷ []
 unfolding statements
 steps_compressed = refl
 
-steps_marked : bare_steps_at (with_proof (codes "( wi ax-1 ax-mp ) ABADZZCABEFHG")) 13
+steps_marked : proof_steps (with_proof (codes "( wi ax-1 ax-mp ) ABADZZCABEFHG")) 13
     ≡ label 2 ∷ label 3 ∷ label 2 ∷ label 4 ∷ label 12 ∷ label 2 ∷ label 3 ∷ label 5 ∷ label 9
     ∷ marked 3 ∷ marked 3 ∷ []
 unfolding statements
 steps_marked = refl
+
+-- the fourth step is marked, and the last two repeat it
+line_of_a1i : proof_line (with_proof (codes "( wi ax-1 ax-mp ) ABADZZCABEFHG")) 13
+    ≡ line (codes "a1i:11:wp wq wp wi h wp wq ax-1 ax-mp *4 *4")
+unfolding statements digits
+line_of_a1i = refl
 
 -- the least fault of reading such a proof, which begins at the place 220
 abbrev reading_fault : List ℕ → Option Fault

@@ -50,16 +50,17 @@ call_of has_only only sections form essential with_open =
     }
 
 -- the sections that a number has as bits: 1 the matrix, 2 the counts, 4 the usage, 8 the citations,
--- 16 the statements
+-- 16 the statements, 32 the proofs
 abbrev pub sections_with_bits : ℕ → Option Sections
 sections_with_bits n =
-    if n == 0 || nat_le 32 n then None
+    if n == 0 || nat_le 64 n then None
     else Some (record {
       matrix = n % 2 == 1;
       counts = n / 2 % 2 == 1;
       usage = n / 4 % 2 == 1;
       citations = n / 8 % 2 == 1;
       statements = n / 16 % 2 == 1;
+      proofs = n / 32 % 2 == 1;
     })
 
 -- the form with a number

@@ -43,7 +43,7 @@ use mm_version::VERSION;
 /// - `only`: the typecode of the axioms that are columns, and of the citations and the statements
 ///   that are listed, as UTF-8, if `has_only`. Otherwise it isn't read.
 /// - `sections`: the sections, as bits of which at least one is set: 1 the matrix, 2 the counts, 4
-///   the usage, 8 the citations, 16 the statements. They are written in this order.
+///   the usage, 8 the citations, 32 the proofs, 16 the statements. They are written in this order.
 /// - `form`: how the matrix is written: 1 a digit for each column, 2 a hexadecimal digit for every
 ///   four.
 /// - `essential`: whether a theorem cites only by the essential nodes of its proof.

@@ -10,7 +10,7 @@ use mm_spec::{Form, Request, Sections};
 fn sections(bits: u32) -> Option<Sections>
     ensures { result ≡ sections_with_bits bits }
 {
-    if bits == 0 || 32 <= bits {
+    if bits == 0 || 64 <= bits {
         return None;
     }
     Some(Sections {
@@ -19,6 +19,7 @@ fn sections(bits: u32) -> Option<Sections>
         usage: bits / 4 % 2 == 1,
         citations: bits / 8 % 2 == 1,
         statements: bits / 16 % 2 == 1,
+        proofs: bits / 32 % 2 == 1,
     })
 }
 

@@ -20,6 +20,9 @@ const MATRIX_AND_CITATIONS: &[u8] =
 /// The report on axioms of the typecode `|-`, and its part with the counts alone.
 const LOGICAL_COUNTS: &[u8] = b"mmdepend 1\naxioms 1\ntheorems 1\ncounts\nwi2:0\nend\n";
 
+/// The steps of its proof.
+const STEPS: &[u8] = b"mmdepend 1\naxioms 2\ntheorems 1\nproofs\nwi2:5:wp wq wp wi wi\nend\n";
+
 /// The lines of the syntax of that database alone.
 const SYNTAX_STATEMENTS: &[u8] =
     b"mmdepend 1\naxioms 1\ntheorems 1\nstatements\nwi:a:60:83: $f wp wff p $f wq wff q $a wff ( p -> q )\nwi2:p:118:169: $f wp wff p $f wq wff q $p wff ( p -> ( q -> p ) )\nend\n";
@@ -51,7 +54,9 @@ const NO_SECTION: u32 = 0;
 
 const STATEMENTS: u32 = 16;
 
-const UNKNOWN_BIT: u32 = 33;
+const PROOFS: u32 = 32;
+
+const UNKNOWN_BIT: u32 = 65;
 
 const FORM_1: u32 = 1;
 
@@ -228,6 +233,7 @@ fn each_status_comes_with_its_output(rt: HostRuntime) {
             SYNTAX_STATEMENTS
         )
     );
+    assert!(&rt; answers(memory, TEXT, b"", PROOFS, ACCEPTED, STEPS));
     assert!(&rt; answers(memory, TEXT, b"", NO_SECTION, NO_SUCH_REQUEST, b""));
     assert!(&rt; answers(memory, TEXT, b"", UNKNOWN_BIT, NO_SUCH_REQUEST, b""));
 }

@@ -36,7 +36,7 @@ names_in text = slice_split (λ b. b == 44) text
 abbrev pub section_names : List Text
 section_names =
     codes "all" ∷ codes "matrix" ∷ codes "counts" ∷ codes "usage" ∷ codes "citations"
-    ∷ codes "statements" ∷ []
+    ∷ codes "proofs" ∷ codes "statements" ∷ []
 
 -- whether each name of a text is one of these
 abbrev pub has_known_names : Text → Bool
@@ -62,6 +62,7 @@ sections_named names = let is_all = is_in (codes "all") names in
       counts = is_all || is_in (codes "counts") names;
       usage = is_all || is_in (codes "usage") names;
       citations = is_in (codes "citations") names;
+      proofs = is_in (codes "proofs") names;
       statements = is_in (codes "statements") names;
     }
 

@@ -68,7 +68,8 @@ fn report_option<'a>(alloc: Global, texts: &'a [&'a str]) -> Arg<'a>
         .default_value("all")
         .help(
             "Write these parts of the report, with commas between them: \
-               matrix, counts, usage, citations, statements, or all, which is the first three",
+               matrix, counts, usage, citations, proofs, statements, or all, which is the \
+               first three",
         )
 }
 

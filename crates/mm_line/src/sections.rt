@@ -19,6 +19,7 @@ fn is_known(name: &str) -> bool
         || name == "counts"
         || name == "usage"
         || name == "citations"
+        || name == "proofs"
         || name == "statements"
 }
 
@@ -55,6 +56,7 @@ pub(crate) fn report_texts<'a, S: AsStr>(
         "counts",
         "usage",
         "citations",
+        "proofs",
         "statements",
     ]?;
     for word in words {
@@ -82,6 +84,7 @@ pub(crate) fn sections_named_in(text: &str) -> Sections
         counts: is_all || has_name(text, "counts"),
         usage: is_all || has_name(text, "usage"),
         citations: has_name(text, "citations"),
+        proofs: has_name(text, "proofs"),
         statements: has_name(text, "statements"),
     }
 }

@@ -2,13 +2,13 @@
 use Rattle.std.proofs.lemmas.Grind.{common_steps, flat_map-append}
 use Rattle.std.proofs.Common.{rules, Option, refl, ◌==◌, true≢false, append-nil, ◌≡◌, ◌∙◌, ℕ, suc}
 use Rattle.std.proofs.Common.{◌+◌, ◌<◌, Bool, List, [], ◌∷◌, ◌++◌, length, take, get_or, map, sym}
-use Rattle.std.proofs.Common.{ap, arith, All, zero-add, true, false, cond}
+use Rattle.std.proofs.Common.{ap, arith, All, zero-add, true, false}
 use Rattle.mm_report.specs.Sent.{Pending, Sent}
 use Rattle.mm_report.proofs.SentLaw.{sent_both, sent_equal_text, range_append}
 use Rattle.std.proofs.lemmas.List.FromFn.{map-range_with_len_more, length-map-range_with_len}
 use Rattle.std.proofs.lemmas.List.FromFn.{get_or-map-range_with_len}
 use Rattle.mm_report.proofs.LabelLaw.{numbers_lt_bound}
-use Rattle.std.specs.Prelude.{flat_map, codes, slice_index_or}
+use Rattle.std.specs.Prelude.{flat_map, codes}
 use Rattle.std.specs.List.{filter, range_with_len}
 use Rattle.std.proofs.lemmas.List.{flat_map_more, take_more}
 use Rattle.std.proofs.lemmas.List.Elements.{All-nil, All-append, All-map, All-filter, All-weaker}

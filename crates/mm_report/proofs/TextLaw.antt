@@ -1,6 +1,6 @@
 -- The report that is written is that of the database.
 use Rattle.std.proofs.lemmas.Grind.{common_steps}
-use Rattle.std.proofs.Common.{arith, ◌≡◌, ◌∙◌, ℕ, List, [], ap, sym, length, map, ◌++◌}
+use Rattle.std.proofs.Common.{arith, ◌≡◌, ℕ, List, [], ap, sym, length, map, ◌++◌}
 use Rattle.std.proofs.Common.{append_assoc, append-nil}
 use Rattle.std.proofs.lemmas.List.FromFn.{length-map-range_with_len}
 use Rattle.mm_spec.specs.Text.{Bytes}

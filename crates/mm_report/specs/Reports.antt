@@ -68,7 +68,8 @@ unmarked_part request d columns rows =
 abbrev pub unmarked_report_of : Request → Contents → List ℕ → List CitingRow → List ℕ
 unmarked_report_of request d columns rows =
     unmarked_part request d columns rows
-    ++ section request.sections.statements (codes "statements") (told_of d request.only)
+    ++ section request.sections.proofs (codes "proofs") (told_of d request.only).proofs
+    ++ section request.sections.statements (codes "statements") (told_of d request.only).statements
     ++ line (codes "end")
 
 -- the report of what the theorems of a database cite

@@ -10,11 +10,12 @@ ghost use Rattle.mm_report.specs.Rows.{next_label};
 ghost use Rattle.mm_report.specs.CitingRows.{citing_rows, listed, listed_labels};
 ghost use Rattle.mm_report.specs.CitingRows.{citing_rows_of};
 ghost use Rattle.mm_report.specs.Reports.{unmarked_part, unmarked_report_of};
-ghost use Rattle.mm_report.specs.Told.{AreDummiesFor};
+ghost use Rattle.mm_report.specs.Told.{AreDummiesFor, AreStepsFor};
 ghost use Rattle.mm_report.specs.Sent.{Sent};
 
 use crate::labels::{TheoremLabels, label_of};
 use crate::open_theorems::open_theorem_count;
+use crate::proof_lines::send_proofs_section;
 use crate::sections::{send_head, send_line};
 use crate::sink::{Sink, WriteFailed};
 use crate::statements::send_statements_section;
@@ -22,7 +23,7 @@ use mm_cites::Citations;
 use mm_database::{Database, has_chosen_typecode};
 use mm_rows::Columns;
 use mm_spec::{Form, Request, Sections};
-use mm_tell::Dummies;
+use mm_tell::Told;
 use std::alloc::Allocator;
 use std::io::Write;
 
@@ -165,22 +166,24 @@ fn send_unmarked<W: Write, A: Allocator, C: Allocator, D: Allocator>(
 }
 
 /// Writes the report requested of a database if it has no section of marks, for which no rows are
-/// needed: the first lines, the sections of the citations and of the statements if they are
-/// requested, and the last line. `chosen` has the columns of the typecode requested, `citations`
-/// are those of this database, and `dummy_lists` its dummy variables if the statements are
-/// requested. If open theorems count as axioms, the report says how many columns they are. It
-/// allocates no memory. Returns `WriteFailed` if a write failed or accepted no byte of a piece that
-/// wasn't empty; then a prefix of the report has been written.
+/// needed: the first lines, the sections of the citations, of the proofs and of the statements if
+/// they are requested, and the last line. `chosen` has the columns of the typecode requested,
+/// `citations` are those of this database, and `told` has the steps of its proofs if these are
+/// requested, and its dummy variables if the statements are. If open theorems count as axioms, the
+/// report says how many columns they are. It allocates no memory. Returns `WriteFailed` if a write
+/// failed or accepted no byte of a piece that wasn't empty; then a prefix of the report has been
+/// written.
 pub fn write_without_marks<'a, W: Write, A: Allocator, C: Allocator, V: Allocator, D: Allocator>(
     to: &mut W,
     request: &Request<'_>,
     database: &Database<'a, D>,
     chosen: &Columns<A>,
     citations: &Citations<C>,
-    dummy_lists: &Dummies<V>,
+    told: &Told<V>,
 ) -> Result<(), WriteFailed>
     requires are_citations { AreCitationsOf database.now.statements citations.now }
-    requires are_dummies { AreDummiesFor request.now database.now dummy_lists.now }
+    requires are_dummies { AreDummiesFor request.now database.now told.now.dummy_lists }
+    requires are_steps { AreStepsFor request.now database.now told.now.step_lists }
     ensures report_is_written { OnOk result
         (Appends (W.contents to.old) (W.contents to.new)
         (unmarked_report_of request.now database.now chosen.now
@@ -193,7 +196,8 @@ pub fn write_without_marks<'a, W: Write, A: Allocator, C: Allocator, V: Allocato
 {
     let mut sink = Sink::new();
     send_unmarked(&mut sink, to, request, database, chosen, citations);
-    send_statements_section(&mut sink, to, request, database, dummy_lists);
+    send_proofs_section(&mut sink, to, request, database, &told.step_lists);
+    send_statements_section(&mut sink, to, request, database, &told.dummy_lists);
     send_line(&mut sink, to, b"end");
     sink.finish(to)
 }

@@ -10,13 +10,14 @@ ghost use Rattle.mm_report.specs.Rows.{rows_of};
 ghost use Rattle.mm_report.specs.Reports.{marked_part, report_of, text_request, sections_of};
 ghost use Rattle.mm_report.specs.CitingRows.{citing_rows_of, AreCitationsOf};
 ghost use Rattle.mm_report.specs.Reports.{open_theorem_count as spec_open_theorem_count};
-ghost use Rattle.mm_report.specs.Told.{AreDummiesFor};
+ghost use Rattle.mm_report.specs.Told.{AreDummiesFor, AreStepsFor};
 ghost use Rattle.mm_report.specs.Sent.{Sent};
 
 use crate::choices::Choice;
 use crate::citations::send_citations_section;
 use crate::labels::{ColumnLabels, TheoremLabels};
 use crate::open_theorems::open_theorem_count;
+use crate::proof_lines::send_proofs_section;
 use crate::sections::{send_head, send_line, send_matrix_and_counts, send_usage_section};
 use crate::sink::{Sink, WriteFailed};
 use crate::statements::send_statements_section;
@@ -24,7 +25,7 @@ use mm_cites::Citations;
 use mm_database::Database;
 use mm_rows::{Columns, MarkedRows, Matrix};
 use mm_spec::{Form, Request};
-use mm_tell::Dummies;
+use mm_tell::Told;
 use std::alloc::Allocator;
 use std::io::Write;
 
@@ -57,10 +58,11 @@ fn send_marked<W: Write, A: Allocator, D: Allocator>(
 }
 
 /// Writes the report requested of a database, on the columns `chosen`, whose matrix is `matrix`.
-/// `citations` are those of this database, and `dummy_lists` its dummy variables if the statements
-/// are requested. If open theorems count as axioms, the report says how many columns they are. It
-/// allocates no memory. Returns `WriteFailed` if a write failed or accepted no byte of a piece that
-/// wasn't empty; then a prefix of the report has been written.
+/// `citations` are those of this database. `told` has the steps of its proofs if these are
+/// requested, and its dummy variables if the statements are. If open theorems count as axioms, the
+/// report says how many columns they are. It allocates no memory. Returns `WriteFailed` if a write
+/// failed or accepted no byte of a piece that wasn't empty; then a prefix of the report has been
+/// written.
 pub fn write_requested_report<'a, W: Write, A: Allocator, C: Allocator, V: Allocator, D: Allocator>(
     to: &mut W,
     request: &Request<'_>,
@@ -68,14 +70,15 @@ pub fn write_requested_report<'a, W: Write, A: Allocator, C: Allocator, V: Alloc
     chosen: &Columns<A>,
     matrix: &Matrix<A>,
     citations: &Citations<C>,
-    dummy_lists: &Dummies<V>,
+    told: &Told<V>,
 ) -> Result<(), WriteFailed>
     requires are_columns { (only : Option Bytes)
         × (chosen.now ≡ columns database.now.statements only) }
     requires as_many_columns { length chosen.now ≡ matrix.now.columns }
     requires as_many_rows { length (theorems database.now.statements) ≡ matrix.now.rows }
     requires are_citations { AreCitationsOf database.now.statements citations.now }
-    requires are_dummies { AreDummiesFor request.now database.now dummy_lists.now }
+    requires are_dummies { AreDummiesFor request.now database.now told.now.dummy_lists }
+    requires are_steps { AreStepsFor request.now database.now told.now.step_lists }
     ensures report_is_written { OnOk result
         (Appends (W.contents to.old) (W.contents to.new)
         (report_of request.now database.now chosen.now matrix.now
@@ -90,7 +93,8 @@ pub fn write_requested_report<'a, W: Write, A: Allocator, C: Allocator, V: Alloc
     let labels = TheoremLabels::new(database);
     send_marked(&mut sink, to, request, database, chosen, matrix, &labels);
     send_citations_section(&mut sink, to, request, database, &labels, citations);
-    send_statements_section(&mut sink, to, request, database, dummy_lists);
+    send_proofs_section(&mut sink, to, request, database, &told.step_lists);
+    send_statements_section(&mut sink, to, request, database, &told.dummy_lists);
     send_line(&mut sink, to, b"end");
     sink.finish(to)
 }
@@ -145,12 +149,13 @@ pub fn write_rows<'a, W: Write, A: Allocator, C: Allocator, V: Allocator, D: All
     chosen: &Columns<A>,
     marked: &MarkedRows<A>,
     citations: &Citations<C>,
-    dummy_lists: &Dummies<V>,
+    told: &Told<V>,
 ) -> Result<(), WriteFailed>
     requires no_usage { request.now.sections.usage ≡ false }
     requires as_many_rows { length (theorems database.now.statements) ≡ marked.now.rows }
     requires are_citations { AreCitationsOf database.now.statements citations.now }
-    requires are_dummies { AreDummiesFor request.now database.now dummy_lists.now }
+    requires are_dummies { AreDummiesFor request.now database.now told.now.dummy_lists }
+    requires are_steps { AreStepsFor request.now database.now told.now.step_lists }
     ensures report_is_written { OnOk result
         (Appends (W.contents to.old) (W.contents to.new)
         (report_of request.now database.now chosen.now marked.now
@@ -169,7 +174,8 @@ pub fn write_rows<'a, W: Write, A: Allocator, C: Allocator, V: Allocator, D: All
     send_head(&mut sink, to, request, axioms, open_theorems, theorems);
     send_matrix_and_counts(&mut sink, to, request, marked, &labels);
     send_citations_section(&mut sink, to, request, database, &labels, citations);
-    send_statements_section(&mut sink, to, request, database, dummy_lists);
+    send_proofs_section(&mut sink, to, request, database, &told.step_lists);
+    send_statements_section(&mut sink, to, request, database, &told.dummy_lists);
     send_line(&mut sink, to, b"end");
     sink.finish(to)
 }

@@ -78,7 +78,7 @@ fn send_statement_lines<W: Write, D: Allocator, V: Allocator>(
         ≡ dummies_before database.now.statements (option_copied only)
         (length database.now.statements) }
     ensures { Sent (W.contents to.old) (W.contents to.new) sink.old sink.new
-        (told_of database.now (option_copied only.entry)) }
+        (told_of database.now (option_copied only.entry)).statements }
 {
     for statement in 0..database.len() {
         send_if_told(sink, to, database, dummy_lists, only, statement);
@@ -97,7 +97,7 @@ pub(crate) fn send_statements_section<W: Write, D: Allocator, V: Allocator>(
     requires { AreDummiesFor request.now database.now dummy_lists.now }
     ensures { Sent (W.contents to.old) (W.contents to.new) sink.old sink.new
         (section request.now.sections.statements (codes "statements")
-        (told_of database.now request.now.only)) }
+        (told_of database.now request.now.only).statements) }
 {
     if request.sections.statements {
         send_line(sink, to, b"statements");

@@ -10,7 +10,9 @@ use Rattle.mm_spec.specs.Request.{Request}
 use Rattle.mm_spec.specs.Lexed.{lexed_of}
 use Rattle.mm_spec.specs.Statement.{Statement}
 use Rattle.mm_spec.specs.Assertion.{statement_lines}
-use Rattle.mm_spec.specs.Output.{columns, HasNoFault, is_open_at, told_lines, IsReportOf, IsOutput}
+use Rattle.mm_spec.specs.Report.{ToldLines}
+use Rattle.mm_spec.specs.Output.{columns, HasNoFault, is_open_at, proof_lines, told_lines}
+use Rattle.mm_spec.specs.Output.{IsReportOf, IsOutput}
 use Rattle.mm_database.specs.Database.{Contents}
 use Rattle.mm_report.specs.Reports.{open_theorem_count}
 use Rattle.mm_report.specs.Told.{told_of}
@@ -33,7 +35,10 @@ open_theorems_are d false only axioms is_counted axioms_are = refl
 told_are : (d : Contents) (request : Request) → IsCounted request.with_open d
     → told_of d request.only ≡ told_lines d.read request
 told_are d request is_counted =
-    ap₂ (λ (b : Bool) (db : List Statement). statement_lines db (is_open_at d.read b) request.only)
+    ap₂ (λ (b : Bool) (db : List Statement). record {
+      proofs = proof_lines db;
+      statements = statement_lines db (is_open_at d.read b) request.only;
+    })
     is_counted.flag_is is_counted.statements_are
 
 pub is_output : (request : Request) (d : Contents) (axioms bytes : List ℕ)
@@ -51,7 +56,7 @@ is_output request d axioms bytes is_counted has_no_fault axioms_are is_report =
           request
           bytes)
           (open_theorems_are d request.with_open request.only axioms is_counted axioms_are)
-          (subst (λ (t : List ℕ). IsReportOf (open_as_axioms request.with_open d.read)
+          (subst (λ (t : ToldLines). IsReportOf (open_as_axioms request.with_open d.read)
           (open_theorem_count request.with_open d axioms) t request bytes)
           (told_are d request is_counted)
           (subst (λ db. IsReportOf db (open_theorem_count request.with_open d axioms)

@@ -1,5 +1,5 @@
 -- The report that is written is that of the definitions: a mark stands for a chain of citations.
-use Rattle.std.proofs.Common.{◌≡◌, ◌∙◌, ℕ, suc, ◌<◌, Bool, true, false, ◌||◌, List, [], ◌∷◌, ◌++◌}
+use Rattle.std.proofs.Common.{◌≡◌, ◌∙◌, ℕ, suc, ◌<◌, Bool, false, ◌||◌, List, [], ◌∷◌, ◌++◌}
 use Rattle.std.proofs.Common.{length, map, get_or, Option, None, refl, sym, ap, subst, arith, ◌↔◌}
 use Rattle.std.proofs.Common.{append-nil}
 use Rattle.std.proofs.lemmas.Grind.{common_steps}
@@ -10,7 +10,8 @@ use Rattle.std.proofs.lemmas.List.FromFn.{get_or-map-range_with_len, length-map-
 use Rattle.mm_spec.specs.Statement.{Statement}
 use Rattle.mm_spec.specs.Citation as proof
 use Rattle.mm_spec.specs.Text.{Bytes}
-use Rattle.mm_spec.specs.Report.{Row, CitingRow, report, head, section, citation_line, line}
+use Rattle.mm_spec.specs.Report.{Row, CitingRow, ToldLines, report, head, section, citation_line}
+use Rattle.mm_spec.specs.Report.{line}
 use Rattle.mm_spec.specs.Request.{Request, has_marks}
 use Rattle.mm_spec.specs.Assertion.{label_at}
 use Rattle.mm_spec.specs.Output.{IsRowOf, theorems, columns, IsReportOf, IsOutput, AllAreValid}
@@ -101,7 +102,7 @@ module _ (db : List Statement) (request : Request) (c : Citing) (m : Marks)
       (get_or-map (label_at db) (theorems db) i 0 [] i_lt_length, marks_decide i i_lt_length))
 
 -- from the marks of the chains of citations, the report is that of the definitions
-is_report : (request : Request) (db : List Statement) (opened : Option ℕ) (told : List ℕ)
+is_report : (request : Request) (db : List Statement) (opened : Option ℕ) (told : ToldLines)
     → (c : Citing) (axioms : List ℕ) (m : Marks) → AllHaveCitations db request.essential c
     → axioms ≡ columns db request.only → IsMatrix c axioms m
     → IsReportOf db opened told request
@@ -134,12 +135,14 @@ marks_are_output request d c axioms m is_faultless axioms_are is_matrix =
 -- the rows of the definitions are as many as those of the citations, and without sections of marks
 -- no more is told of them
 unmarked_is_report : (request : Request) (opened : Option ℕ) (axioms : List ℕ)
-    → (names : List Bytes) (rows : List Row) (citing : List CitingRow) (told : List ℕ)
+    → (names : List Bytes) (rows : List Row) (citing : List CitingRow) (told : ToldLines)
     → has_marks request.sections ≡ false → length axioms ≡ length names
     → length citing ≡ length rows
     → head request.form (length axioms) opened (length citing)
     ++ section request.sections.citations (codes "citations") (flat_map citation_line citing)
-    ++ section request.sections.statements (codes "statements") told ++ line (codes "end")
+    ++ section request.sections.proofs (codes "proofs") told.proofs
+    ++ section request.sections.statements (codes "statements") told.statements
+    ++ line (codes "end")
     ≡ report request opened names rows citing told
 unmarked_is_report request opened axioms names rows citing told no_marks axioms_named as_many =
     let parts = none_of_three request.sections.matrix request.sections.counts
@@ -148,7 +151,9 @@ unmarked_is_report request opened axioms names rows citing told no_marks axioms_
     rw (axioms_named, as_many, parts.0, parts.1, parts.2)
     (ap (λ (x : List ℕ). x
     ++ section request.sections.citations (codes "citations") (flat_map citation_line citing)
-    ++ section request.sections.statements (codes "statements") told ++ line (codes "end"))
+    ++ section request.sections.proofs (codes "proofs") told.proofs
+    ++ section request.sections.statements (codes "statements") told.statements
+    ++ line (codes "end"))
     (sym (append-nil h) ∙ sym (append-nil (h ++ [])) ∙ sym (append-nil (h ++ [] ++ []))))
   where
     none_of_three : (a b c : Bool) → (a || (b || c)) ≡ false

@@ -5,7 +5,7 @@ use Rattle.mm_spec.specs.Output.{columns}
 use Rattle.mm_database.specs.Database.{Contents}
 use Rattle.mm_work.specs.Citing.{Citing}
 use Rattle.mm_rows.specs.Marks.{IsMatrix}
-use Rattle.mm_report.specs.Told.{AreDummiesFor}
+use Rattle.mm_report.specs.Told.{AreDummiesFor, AreStepsFor}
 use Rattle.mm_run.specs.declared.prepared.MarksFor.{MarksFor}
 use Rattle.mm_run.specs.declared.prepared.MarksFor.TheVariants.{NoSection, Rows, Usage}
 use Rattle.mm_run.specs.declared.prepared.Prepared.{Prepared}
@@ -23,4 +23,5 @@ module _ {A : Type 0} where
       : Type 0 where
     pub columns_are : p.chosen ≡ columns d.statements request.only
     pub are_marks : AreMarksFor request c p.chosen p.marks
-    pub are_dummies : AreDummiesFor request d p.dummy_lists
+    pub are_dummies : AreDummiesFor request d p.told.dummy_lists
+    pub are_steps : AreStepsFor request d p.told.step_lists

@@ -2,16 +2,16 @@
 
 ghost use Rattle.std.specs.Prelude.{◌≡◌, ◌<◌, ◌^◌, ℕ, List, IfOk, OnOk, OnErr, length, take};
 ghost use Rattle.std.specs.Io.KnownBytes.{Appends};
-ghost use Rattle.mm_spec.specs.Output.{IsOutput, columns};
+ghost use Rattle.mm_spec.specs.Output.{AllAreValid, IsOutput, columns};
 ghost use Rattle.mm_rows.specs.Marks.{IsMatrix};
-ghost use Rattle.mm_report.specs.Told.{AreDummiesFor};
+ghost use Rattle.mm_report.specs.Told.{AreDummiesFor, AreStepsFor};
 ghost use Rattle.mm_run.specs.Judging.{IsFaultless};
 ghost use Rattle.mm_run.specs.Prepared.{AreMarksFor, IsPrepared};
 
 use mm_database::Database;
 use mm_report::{Request, WriteFailed, write_requested_report, write_rows, write_without_marks};
 use mm_rows::{Columns, MarkedRows, Matrix, marked_rows, matrix};
-use mm_tell::Dummies;
+use mm_tell::{Dummies, StepLists, Told};
 use mm_work::Citations;
 use std::alloc::{AllocError, Allocator};
 use std::io::Write;
@@ -28,11 +28,11 @@ pub enum MarksFor<A: Allocator> {
 }
 
 /// What a report needs besides the database and its citations, and what takes memory to make: its
-/// columns, its marks, and the dummy variables that its statements tell.
+/// columns, its marks, and what it tells of proofs.
 pub struct Prepared<A: Allocator> {
     pub chosen: Columns<A>,
     pub marks: MarksFor<A>,
-    pub dummy_lists: Dummies<A>,
+    pub told: Told<A>,
 }
 
 /// Dropped in one call: docs/PROOFS.md, "What a check costs".
@@ -41,7 +41,7 @@ impl<A: Allocator> Drop for Prepared<A> {
         let Self {
             chosen: _,
             marks: _,
-            dummy_lists: _,
+            told: _,
         } = self;
     }
 }
@@ -82,23 +82,46 @@ fn dummies_for<'a, A: Allocator + Copy>(
     }
 }
 
-/// Makes what the report requested of a database needs besides it and its citations. Fails only if
-/// out of memory, or if there are 2^32 dummy variables or more.
+/// Reads the proofs of a database's theorems, which are valid, if their steps are requested. Fails
+/// only if out of memory, or if there are 2^32 of them or more.
+fn steps_for<'a, A: Allocator + Copy>(
+    alloc: A,
+    request: &Request<'_>,
+    database: &Database<'a, A>,
+) -> Result<StepLists<A>, AllocError>
+    requires { AllAreValid database.now.statements }
+    ensures { IfOk result (AreStepsFor request.now database.now) }
+{
+    if request.sections.proofs {
+        StepLists::new(alloc, database)
+    } else {
+        Ok(StepLists::none(alloc))
+    }
+}
+
+/// Makes what the report requested of a database without a fault needs besides it and its
+/// citations. The request has the flags `essential` and `with_open` with which it was judged. Fails
+/// only if out of memory, or if there are 2^32 dummy variables or steps or more.
 pub fn prepare<'a, A: Allocator + Copy>(
     alloc: A,
     request: &Request<'_>,
     database: &Database<'a, A>,
     citations: &Citations<A>,
 ) -> Result<Prepared<A>, AllocError>
+    requires { IsFaultless request.now.essential request.now.with_open database.now citations.now }
     ensures { IfOk result (IsPrepared request.now database.now citations.now) }
 {
     let chosen = Columns::new(alloc, database, request.only)?;
     let marks = marks_for(alloc, request, citations, &chosen)?;
     let dummy_lists = dummies_for(alloc, request, database)?;
+    let step_lists = steps_for(alloc, request, database)?;
     Ok(Prepared {
         chosen,
         marks,
-        dummy_lists,
+        told: Told {
+            dummy_lists,
+            step_lists,
+        },
     })
 }
 
@@ -125,28 +148,16 @@ pub fn write_prepared<'a, A: Allocator, W: Write>(
         × Appends (W.contents to.old) (W.contents to.new) (take k bytes)) }
 {
     let chosen = &prepared.chosen;
-    let dummy_lists = &prepared.dummy_lists;
+    let told = &prepared.told;
     match &prepared.marks {
         MarksFor::NoSection => {
-            write_without_marks(to, request, database, chosen, citations, dummy_lists)
+            write_without_marks(to, request, database, chosen, citations, told)
         }
         MarksFor::Rows(marked) => write_rows(
-            to,
-            request,
-            database,
-            chosen,
-            marked,
-            citations,
-            dummy_lists,
+            to, request, database, chosen, marked, citations, told,
         ),
         MarksFor::Usage(matrix) => write_requested_report(
-            to,
-            request,
-            database,
-            chosen,
-            matrix,
-            citations,
-            dummy_lists,
+            to, request, database, chosen, matrix, citations, told,
         ),
     }
 }

@@ -24,6 +24,7 @@ pub mod Nodes
 pub mod Citation
 pub mod Assertion
 pub mod Report
+pub mod ProofLine
 pub mod Request
 pub mod Output
 pub mod Ends

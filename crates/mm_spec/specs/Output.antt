@@ -1,7 +1,7 @@
 -- The first fault of a text, and what is written (this project's own).
 use Rattle.std.specs.Prelude.{◌≢◌, ◌++◌, ◌≡◌, ℕ, ◌<◌, Bool, true, false, List, [], ◌∷◌, length, map}
 use Rattle.std.specs.Prelude.{Option, Some, None, slice_get, ◌⊎◌, IsTrue, Decides}
-use Rattle.std.specs.Prelude.{count_by, if◌then◌else◌, ◌&&◌}
+use Rattle.std.specs.Prelude.{count_by, if◌then◌else◌, ◌&&◌, flat_map}
 use Rattle.std.specs.List.{list_any, range_with_len, AllZip, filter}
 use Rattle.mm_spec.specs.Text.{Bytes, Token, Fault}
 use Rattle.mm_spec.specs.Lexed.{LexedText, lexed_of}
@@ -16,7 +16,8 @@ use Rattle.mm_spec.specs.Valid as proof
 use Rattle.mm_spec.specs.Citation.{context_at, steps_at, reading_faults_at, is_theorem, IsValid}
 use Rattle.mm_spec.specs.Citation.{Cites, RestsOn}
 use Rattle.mm_spec.specs.Assertion.{label_at, has_typecode, statement_lines}
-use Rattle.mm_spec.specs.Report.{Row, CitingRow, report, refusal}
+use Rattle.mm_spec.specs.Report.{Row, CitingRow, ToldLines, report, refusal}
+use Rattle.mm_spec.specs.ProofLine.{proof_line}
 use Rattle.mm_spec.specs.Request.{Request}
 use Rattle.mm_spec.specs.Derivation.{is_member}
 use Rattle.std.specs.List.Sorted.{IsStrictlyIncreasing}
@@ -145,16 +146,24 @@ open_theorem_count db request =
 abbrev pub is_open_at : List Statement → (with_open : Bool) → ℕ → Bool
 is_open_at db with_open j = with_open && list_any is_open_theorem (statement_at db j)
 
--- the bytes of the section of the statements: open theorems count as axioms if the request says so
-abbrev pub told_lines : List Statement → Request → List ℕ
-told_lines db request =
-    statement_lines (open_as_axioms request.with_open db) (is_open_at db request.with_open)
-    request.only
+-- the lines of the theorems' proofs
+abbrev pub proof_lines : List Statement → List ℕ
+proof_lines db = flat_map (proof_line db) (theorems db)
+
+-- the lines of the proofs and of the statements: open theorems count as axioms if the request says
+-- so
+abbrev pub told_lines : List Statement → Request → ToldLines
+told_lines db request = record {
+  proofs = proof_lines (open_as_axioms request.with_open db);
+  statements =
+      statement_lines (open_as_axioms request.with_open db) (is_open_at db request.with_open)
+      request.only;
+}
 
 -- The report on a database: the theorems have these rows, by what they rest on and by what they
 -- cite, and these are its bytes. `open_theorems` says how many columns are open theorems, if these
--- count as axioms, and `told` are the lines of the statements.
-pub record IsReportOf (db : List Statement) (open_theorems : Option ℕ) (told : List ℕ)
+-- count as axioms, and `told` are the lines of the proofs and of the statements.
+pub record IsReportOf (db : List Statement) (open_theorems : Option ℕ) (told : ToldLines)
     (request : Request) (bytes : List ℕ) : Type 0 where
   pub rows : List Row
   pub are_rows : AllZip (IsRowOf db request) (theorems db) rows

@@ -21,6 +21,11 @@ pub record CitingRow : Type 0 where
   pub label : Bytes
   pub cited : List Bytes
 
+-- the lines of the sections of the proofs and of the statements
+pub record ToldLines : Type 0 where
+  pub proofs : List ℕ
+  pub statements : List ℕ
+
 -- the text as a line
 abbrev pub line : List ℕ → List ℕ
 line text = text ++ 10 ∷ []
@@ -119,16 +124,18 @@ head form axioms open_theorems theorems =
     ++ open_line open_theorems ++ head_line (codes "theorems") theorems
 
 -- the report requested, with these labels of columns, these rows, these rows of citations, and
--- these lines of the statements
+-- these lines of the proofs and of the statements
 abbrev pub report : Request → Option ℕ → List Bytes → List Row → List CitingRow
-    → (told : List ℕ) → List ℕ
+    → (told : ToldLines) → List ℕ
 report request open_theorems columns rows citing_rows told =
     head request.form (length columns) open_theorems (length rows)
     ++ section request.sections.matrix (codes "matrix") (flat_map (matrix_line request.form) rows)
     ++ section request.sections.counts (codes "counts") (flat_map count_line rows)
     ++ section request.sections.usage (codes "usage") (usage_lines rows 0 columns)
     ++ section request.sections.citations (codes "citations") (flat_map citation_line citing_rows)
-    ++ section request.sections.statements (codes "statements") told ++ line (codes "end")
+    ++ section request.sections.proofs (codes "proofs") told.proofs
+    ++ section request.sections.statements (codes "statements") told.statements
+    ++ line (codes "end")
 
 -- how many bytes there are after the last line feed, with n before these bytes
 abbrev pub bytes_after_line_feed_from : ℕ → List ℕ → ℕ

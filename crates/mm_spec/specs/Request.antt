@@ -11,6 +11,7 @@ no_sections = record {
   counts = false;
   usage = false;
   citations = false;
+  proofs = false;
   statements = false;
 }
 

@@ -70,6 +70,9 @@ pub struct Sections {
     /// A line for each theorem: its label, the number of assertions that its own proof cites, and
     /// their labels.
     pub citations: bool,
+    /// A line for each theorem: its label, the number of the steps of its proof, and these steps:
+    /// the label of each, or the number of the step that it repeats.
+    pub proofs: bool,
     /// A line for each assertion: its label, its kind, its place, its mandatory hypotheses, which
     /// variables have to be distinct, and its formula.
     pub statements: bool,
@@ -85,6 +88,7 @@ impl Sections {
             counts: false,
             usage: false,
             citations: false,
+            proofs: false,
             statements: false,
         }
     }
@@ -98,6 +102,7 @@ impl Sections {
             counts: true,
             usage: true,
             citations: false,
+            proofs: false,
             statements: false,
         }
     }

@@ -70,6 +70,7 @@ const REPORTS: [Sections; 4] = [
     },
     Sections {
         citations: true,
+        proofs: true,
         statements: true,
         ..NO_SECTION
     },
@@ -80,6 +81,7 @@ const NO_SECTION: Sections = Sections {
     counts: false,
     usage: false,
     citations: false,
+    proofs: false,
     statements: false,
 };
 

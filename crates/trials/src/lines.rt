@@ -8,7 +8,7 @@ use std::alloc::{AllocError, Global};
 
 /// What `--help` prints.
 const HELP: &str =
-    "Verifies a Metamath database and reports on which axioms each theorem rests\n\nUsage: mmdepend [OPTIONS] [FILE]\n\nArguments:\n  [FILE]  The database; without it, or where it is -, the standard input is read\n\nOptions:\n      --workers <N>    Check the proofs by N threads, 1 to 64 [default: 4]\n      --pieces <N>     Read the text in N pieces, 1 to 64 [default: 4]\n      --only <T>       Report on the axioms of typecode T alone, such as '|-'\n      --report <PART>  Write these parts of the report, with commas between them: matrix, counts, usage, citations, statements, or all, which is the first three [default: all]\n      --form <N>       Write the matrix as a digit for each column, or for each four [default: 1] [possible values: 1, 2]\n      --essential      Count what the logical part of a proof cites, and not what builds its formulas\n      --open           Count a theorem whose proof is ? as an axiom\n      --against <OLD>  Write what FILE has and OLD hasn't, and the other way round, in place of the report\n      --and-report     With --against, write the report on FILE behind that, as --report asks for it\n  -h, --help           Print help\n  -V, --version        Print version\n\nThe standard output gets the report, or one line with the first fault and its place.\nStatus: 0 accepted, 1 refused, 2 invalid command line, 3 reading or writing failed,\n4 out of memory. For 2 to 4 the standard error says why.\nThe codes of faults (E00 to E45) are explained in docs/FAULTS.md.\n";
+    "Verifies a Metamath database and reports on which axioms each theorem rests\n\nUsage: mmdepend [OPTIONS] [FILE]\n\nArguments:\n  [FILE]  The database; without it, or where it is -, the standard input is read\n\nOptions:\n      --workers <N>    Check the proofs by N threads, 1 to 64 [default: 4]\n      --pieces <N>     Read the text in N pieces, 1 to 64 [default: 4]\n      --only <T>       Report on the axioms of typecode T alone, such as '|-'\n      --report <PART>  Write these parts of the report, with commas between them: matrix, counts, usage, citations, proofs, statements, or all, which is the first three [default: all]\n      --form <N>       Write the matrix as a digit for each column, or for each four [default: 1] [possible values: 1, 2]\n      --essential      Count what the logical part of a proof cites, and not what builds its formulas\n      --open           Count a theorem whose proof is ? as an axiom\n      --against <OLD>  Write what FILE has and OLD hasn't, and the other way round, in place of the report\n      --and-report     With --against, write the report on FILE behind that, as --report asks for it\n  -h, --help           Print help\n  -V, --version        Print version\n\nThe standard output gets the report, or one line with the first fault and its place.\nStatus: 0 accepted, 1 refused, 2 invalid command line, 3 reading or writing failed,\n4 out of memory. For 2 to 4 the standard error says why.\nThe codes of faults (E00 to E45) are explained in docs/FAULTS.md.\n";
 
 /// The number of pieces and of workers of a line that names none.
 const DEFAULT: u32 = 4;
@@ -90,28 +90,31 @@ fn options_stand_before_and_after_the_file(rt: HostRuntime) {
 }
 
 /// What `--report` is given, and whether this asks for the matrix, the counts, the usage, the
-/// citations and the statements.
-const REPORTS: [(&str, bool, bool, bool, bool, bool); 12] = [
-    ("all", true, true, true, false, false),
-    ("matrix", true, false, false, false, false),
-    ("counts", false, true, false, false, false),
-    ("usage", false, false, true, false, false),
-    ("citations", false, false, false, true, false),
-    ("statements", false, false, false, false, true),
-    ("citations,matrix", true, false, false, true, false),
-    ("counts,counts", false, true, false, false, false),
-    ("citations,all", true, true, true, true, false),
-    ("usage,all,usage", true, true, true, false, false),
+/// citations, the proofs and the statements.
+const REPORTS: [(&str, bool, bool, bool, bool, bool, bool); 13] = [
+    ("all", true, true, true, false, false, false),
+    ("matrix", true, false, false, false, false, false),
+    ("counts", false, true, false, false, false, false),
+    ("usage", false, false, true, false, false, false),
+    ("citations", false, false, false, true, false, false),
+    ("proofs", false, false, false, false, true, false),
+    ("statements", false, false, false, false, false, true),
+    ("citations,matrix", true, false, false, true, false, false),
+    ("counts,counts", false, true, false, false, false, false),
+    ("citations,all", true, true, true, true, false, false),
+    ("usage,all,usage", true, true, true, false, false, false),
     (
         "statements,matrix,statements",
         true,
         false,
         false,
         false,
+        false,
         true,
     ),
     (
-        "statements,citations,usage,counts,matrix",
+        "statements,proofs,citations,usage,counts,matrix",
+        true,
         true,
         true,
         true,
@@ -122,12 +125,13 @@ const REPORTS: [(&str, bool, bool, bool, bool, bool); 12] = [
 
 #[test]
 fn each_part_that_is_named_is_written(rt: HostRuntime) {
-    for (word, matrix, counts, usage, citations, statements) in &REPORTS {
+    for (word, matrix, counts, usage, citations, proofs, statements) in &REPORTS {
         let sections = Sections {
             matrix: *matrix,
             counts: *counts,
             usage: *usage,
             citations: *citations,
+            proofs: *proofs,
             statements: *statements,
         };
         let words = ["mmdepend", "--report", *word];
@@ -280,19 +284,19 @@ const FAULTS: [(&[&str], &str); 12] = [
     ),
     (
         &["mmdepend", "--report", "none"],
-        "error: invalid value 'none' for '--report <PART>'\n  [possible values: all, matrix, counts, usage, citations, statements]\n\nFor more information, try '--help'.\n",
+        "error: invalid value 'none' for '--report <PART>'\n  [possible values: all, matrix, counts, usage, citations, proofs, statements]\n\nFor more information, try '--help'.\n",
     ),
     (
         &["mmdepend", "--report", "matrix,none,usage"],
-        "error: invalid value 'matrix,none,usage' for '--report <PART>'\n  [possible values: all, matrix, counts, usage, citations, statements]\n\n  tip: a similar value exists: 'matrix'\n\nFor more information, try '--help'.\n",
+        "error: invalid value 'matrix,none,usage' for '--report <PART>'\n  [possible values: all, matrix, counts, usage, citations, proofs, statements]\n\n  tip: a similar value exists: 'matrix'\n\nFor more information, try '--help'.\n",
     ),
     (
         &["mmdepend", "--report", "matrix,"],
-        "error: invalid value 'matrix,' for '--report <PART>'\n  [possible values: all, matrix, counts, usage, citations, statements]\n\n  tip: a similar value exists: 'matrix'\n\nFor more information, try '--help'.\n",
+        "error: invalid value 'matrix,' for '--report <PART>'\n  [possible values: all, matrix, counts, usage, citations, proofs, statements]\n\n  tip: a similar value exists: 'matrix'\n\nFor more information, try '--help'.\n",
     ),
     (
         &["mmdepend", "--report", "none", "--help"],
-        "error: invalid value 'none' for '--report <PART>'\n  [possible values: all, matrix, counts, usage, citations, statements]\n\nFor more information, try '--help'.\n",
+        "error: invalid value 'none' for '--report <PART>'\n  [possible values: all, matrix, counts, usage, citations, proofs, statements]\n\nFor more information, try '--help'.\n",
     ),
     (
         &["mmdepend", "a.mm", "b.mm"],

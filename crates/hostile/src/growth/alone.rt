@@ -94,14 +94,27 @@ fn written_in_turn<'h, R: Abort>(
     false
 }
 
-/// Sections, by whether the matrix, the counts, the usage, the citations and the statements are
-/// among them, and what is written for them.
-const OUTPUTS: [(bool, bool, bool, bool, bool, &[u8]); 5] = [
-    (true, true, true, false, false, CITED_TWICE_REPORT),
-    (true, false, false, false, false, MATRIX),
-    (false, false, false, true, false, CITATIONS),
-    (false, false, true, true, false, USAGE_AND_CITATIONS),
-    (false, false, false, false, true, CITED_TWICE_STATEMENTS),
+/// The report of the steps of their proofs.
+const PROOFS: &[u8] =
+    b"mmdepend 1\naxioms 3\ntheorems 2\nproofs\na1i:9:wp wq wp wi h wp wq ax-1 ax-mp\na2:9:wq wp wi wq wp wq g a1i a1i\nend\n";
+
+/// Sections, by whether the matrix, the counts, the usage, the citations, the proofs and the
+/// statements are among them, and what is written for them.
+const OUTPUTS: [(bool, bool, bool, bool, bool, bool, &[u8]); 6] = [
+    (true, true, true, false, false, false, CITED_TWICE_REPORT),
+    (true, false, false, false, false, false, MATRIX),
+    (false, false, false, true, false, false, CITATIONS),
+    (false, false, true, true, false, false, USAGE_AND_CITATIONS),
+    (false, false, false, false, true, false, PROOFS),
+    (
+        false,
+        false,
+        false,
+        false,
+        false,
+        true,
+        CITED_TWICE_STATEMENTS,
+    ),
 ];
 
 /// Refuses each growth of writing each output in turn.
@@ -114,12 +127,13 @@ fn assert_outputs_right<'h, R: Abort>(
 )
     requires { IsJudgedText text.now false false judged.now }
 {
-    for (matrix, counts, usage, citations, statements, output) in OUTPUTS {
+    for (matrix, counts, usage, citations, proofs, statements, output) in OUTPUTS {
         let sections = Sections {
             matrix,
             counts,
             usage,
             citations,
+            proofs,
             statements,
         };
         assert!(rt; written_in_turn(rt, heap, memory, text, judged, sections, output));

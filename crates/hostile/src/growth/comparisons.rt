@@ -25,18 +25,19 @@ const DIFFERENCES_BACK: &[u8] =
     b"mmdepend-differences 1\nnew\ngone\nax-u:a:170:194: $f wp wff p $a |- ( p -> p )\nu2:p:195:228: $f wq wff q $p |- ( q -> q )\ngained\nlost\nu2:1:ax-u\nend\n";
 
 /// The sections that are asked for besides, and what the report on NEW then is. They take rows,
-/// columns and dummy variables.
+/// columns, dummy variables and steps of proofs.
 const REPORTED: Sections = Sections {
     matrix: false,
     counts: false,
     usage: true,
     citations: true,
+    proofs: true,
     statements: true,
 };
 
 /// What is written of the two texts where the report is asked for.
 const WITH_REPORT: &[u8] =
-    b"mmdepend-differences 1\nnew\nax-u:a:170:194: $f wp wff p $a |- ( p -> p )\nu2:p:195:228: $f wq wff q $p |- ( q -> q )\ngone\ngained\nu2:1:ax-u\nlost\nend\nmmdepend 1\naxioms 3\ntheorems 2\nusage\nwi:1:wi2\nax-1:0:\nax-u:1:u2\ncitations\nwi2:1:wi\nu2:1:ax-u\nstatements\nwi:a:60:83: $f wp wff p $f wq wff q $a wff ( p -> q )\nax-1:a:84:117: $f wp wff p $f wq wff q $a |- ( p -> ( q -> p ) )\nwi2:p:118:169: $f wp wff p $f wq wff q $p wff ( p -> ( q -> p ) )\nax-u:a:170:194: $f wp wff p $a |- ( p -> p )\nu2:p:195:228: $f wq wff q $p |- ( q -> q )\nend\n";
+    b"mmdepend-differences 1\nnew\nax-u:a:170:194: $f wp wff p $a |- ( p -> p )\nu2:p:195:228: $f wq wff q $p |- ( q -> q )\ngone\ngained\nu2:1:ax-u\nlost\nend\nmmdepend 1\naxioms 3\ntheorems 2\nusage\nwi:1:wi2\nax-1:0:\nax-u:1:u2\ncitations\nwi2:1:wi\nu2:1:ax-u\nproofs\nwi2:5:wp wq wp wi wi\nu2:2:wq ax-u\nstatements\nwi:a:60:83: $f wp wff p $f wq wff q $a wff ( p -> q )\nax-1:a:84:117: $f wp wff p $f wq wff q $a |- ( p -> ( q -> p ) )\nwi2:p:118:169: $f wp wff p $f wq wff q $p wff ( p -> ( q -> p ) )\nax-u:a:170:194: $f wp wff p $a |- ( p -> p )\nu2:p:195:228: $f wq wff q $p |- ( q -> q )\nend\n";
 
 /// A text with a fault, and what is written of it as OLD and as NEW.
 const UNENDED: &[u8] = b"$c";

@@ -1,5 +1,5 @@
 //! What reports show: the chosen sections and columns, citations by essential nodes, open theorems,
-//! the second form, direct citations, and statements.
+//! the second form, direct citations, steps of proofs, and statements.
 
 use super::{Case, NO_OPTIONS, assert_all_write, writes_for};
 use crate::texts::{
@@ -246,6 +246,44 @@ const CITATIONS_CASES: [Case<'static>; 8] = [
 #[test]
 fn direct_citations(rt: HostRuntime) {
     assert_all_write(&rt, rt.alloc(), &CITATIONS_CASES);
+}
+
+/// A theorem whose proof repeats its third step, a formula that it uses twice.
+const REPEATING: &[u8] = b"twice $p wff ( ( p -> q ) -> ( p -> q ) ) $= ( wi ) ABCZDC $.\n";
+
+/// Runs that report the steps of proofs.
+const PROOFS_CASES: [Case<'static>; 4] = [
+    Case {
+        words: &["mmdepend", "--report", "proofs"],
+        parts: TWO_THEOREMS,
+        output: b"mmdepend 1\naxioms 3\ntheorems 2\nproofs\na1i:9:wp wq wp wi h wp wq ax-1 ax-mp\na2:9:wq wp wi wq wp wq g a1i a1i\nend\n",
+    },
+    Case {
+        words: &["mmdepend", "--report", "proofs"],
+        parts: &[BASE, REPEATING],
+        output: b"mmdepend 1\naxioms 2\ntheorems 1\nproofs\ntwice:5:wp wq wi *3 wi\nend\n",
+    },
+    Case {
+        words: &["mmdepend", "--open", "--report", "counts,proofs"],
+        parts: OPEN,
+        output: b"mmdepend 1\naxioms 4\nopen 1\ntheorems 1\ncounts\nu:1\nproofs\nu:2:wp o\nend\n",
+    },
+    Case {
+        words: &[
+            "mmdepend",
+            "--only",
+            "wff",
+            "--report",
+            "statements,proofs,citations",
+        ],
+        parts: &[BASE, REPEATING],
+        output: b"mmdepend 1\naxioms 1\ntheorems 1\ncitations\ntwice:1:wi\nproofs\ntwice:5:wp wq wi *3 wi\nstatements\nwi:a:60:83: $f wp wff p $f wq wff q $a wff ( p -> q )\ntwice:p:118:179: $f wp wff p $f wq wff q $p wff ( ( p -> q ) -> ( p -> q ) )\nend\n",
+    },
+];
+
+#[test]
+fn steps_of_proofs_are_told(rt: HostRuntime) {
+    assert_all_write(&rt, rt.alloc(), &PROOFS_CASES);
 }
 
 /// Two blocks with `$f` of their own for the same variables. The formula of `one` is empty behind

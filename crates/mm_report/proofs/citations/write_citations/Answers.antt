@@ -1,4 +1,4 @@
-use Rattle.std.proofs.Common.{◌++◌, List, ℕ, ap, sym, append-nil, rules, true}
+use Rattle.std.proofs.Common.{◌∙◌, ◌++◌, List, [], ℕ, ap, sym, append-nil, rules, true}
 use Rattle.std.specs.Prelude.{codes}
 use Rattle.std.specs.Option.{option_copied}
 use Rattle.mm_spec.specs.Report.{line}
@@ -21,7 +21,9 @@ returns g c =
     c.send_unmarked.new.to)
     c.new-sink.result c.send_unmarked.new.sink part = search rules in
     let report_sent =
-    sent_equal_text _ (ap (λ (x : List ℕ). x ++ line (codes "end")) (sym (append-nil part)))
+    sent_equal_text _
+    (ap (λ (x : List ℕ). x ++ line (codes "end"))
+    (sym (append-nil part) ∙ sym (append-nil (part ++ []))))
     (sent_both part_sent c.send_line.ensures) in
     let written =
     written_by_result c.finish.result c.new-sink.ensures report_sent

@@ -1,9 +1,4 @@
-use Rattle.std.proofs.Common.{List, ℕ, ◌++◌, append_assoc, sym}
-use Rattle.std.specs.Prelude.{codes}
-use Rattle.mm_spec.specs.Report.{head_line, line}
-use Rattle.mm_report.specs.Differences.{lines_of, shift_lines}
-use Rattle.mm_spec.specs.Comparison.{differences}
-use Rattle.mm_report.proofs.SentLaw.{sent_both, sent_equal_text, written_by_result}
+use Rattle.mm_report.proofs.SentLaw.{sent_both, written_by_result}
 use Rattle.mm_report.proofs.differences.write_differences.Goals as goal
 
 pub returns : goal.returns

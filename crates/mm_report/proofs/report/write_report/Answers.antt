@@ -3,7 +3,7 @@ use Rattle.std.proofs.Common.{append-nil, append_assoc}
 use Rattle.std.specs.Prelude.{codes}
 use Rattle.mm_spec.specs.Text.{Bytes}
 use Rattle.mm_spec.specs.Assertion.{label_at}
-use Rattle.mm_spec.specs.Report.{report, section, line}
+use Rattle.mm_spec.specs.Report.{ToldLines, report, section, line}
 use Rattle.mm_report.specs.Rows.{rows_of}
 use Rattle.mm_report.specs.Reports.{marked_part, open_theorem_count, sections_of, text_request}
 use Rattle.mm_report.specs.Told.{told_of}
@@ -15,10 +15,11 @@ use Rattle.mm_report.proofs.SentLaw.{sent_both, sent_equal_text, written_by_resu
 use Rattle.mm_report.proofs.TextLaw.{labels_as_many_as_rows}
 use Rattle.mm_report.proofs.report.write_report.Goals as goal
 
--- a choice has neither of the sections that come after those of marks
-marks_alone : (choice : Choice) (citing told : List ℕ)
+-- a choice has none of the sections that come after those of marks
+marks_alone : (choice : Choice) (citing : List ℕ) (told : ToldLines)
     → section (sections_of choice).citations (codes "citations") citing
-    ++ section (sections_of choice).statements (codes "statements") told
+    ++ section (sections_of choice).proofs (codes "proofs") told.proofs
+    ++ section (sections_of choice).statements (codes "statements") told.statements
     ≡ []
 marks_alone All citing told = refl
 marks_alone Matrix citing told = refl
@@ -43,7 +44,9 @@ returns g c =
     let marked = marked_part request opened names (rows_of m c.new-labels.result) in
     let told = told_of d request.only in
     let citing_section = section request.sections.citations (codes "citations") [] in
-    let told_section = section request.sections.statements (codes "statements") told in
+    let proofs_section = section request.sections.proofs (codes "proofs") told.proofs in
+    let statements_section =
+    section request.sections.statements (codes "statements") told.statements in
     let marked_sent : Sent (g.W.Write.contents c.args.to.now) (g.W.Write.contents
     c.send_marked.new.to)
     c.new-sink.result c.send_marked.new.sink marked = search rules in
@@ -52,7 +55,9 @@ returns g c =
     (ap (λ (x : List ℕ). x ++ line (codes "end"))
     (sym (append-nil marked)
     ∙ ap (λ (x : List ℕ). marked ++ x) (sym (marks_alone c.args.choice [] told))
-    ∙ sym (append_assoc marked citing_section told_section))
+    ∙ sym (append_assoc marked (citing_section ++ proofs_section) statements_section)
+    ∙ ap (λ (x : List ℕ). x ++ statements_section)
+    (sym (append_assoc marked citing_section proofs_section)))
     ∙ ap (λ (ls : List Bytes). report request opened names (rows_of m ls) [] told)
     c.new-labels.ensures)
     (sent_both marked_sent c.send_line.ensures) in

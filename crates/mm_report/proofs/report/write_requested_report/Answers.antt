@@ -17,7 +17,9 @@ pub returns : goal.returns
 returns g c =
     let report_sent =
     rw c.new-labels.ensures at (sent_both
+    (sent_both
     (sent_both (sent_both c.send_marked.ensures c.send_citations_section.ensures)
+    c.send_proofs_section.ensures)
     c.send_statements_section.ensures)
     c.send_line.ensures) in
     let written =

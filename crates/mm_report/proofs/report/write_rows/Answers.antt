@@ -58,17 +58,22 @@ returns g c =
     let citing_section =
     section request.sections.citations (codes "citations") (flat_map citation_line citing) in
     let told = told_of d request.only in
-    let told_section = section request.sections.statements (codes "statements") told in
+    let proofs_section = section request.sections.proofs (codes "proofs") told.proofs in
+    let statements_section =
+    section request.sections.statements (codes "statements") told.statements in
     let report_sent =
     sent_equal_text _
-    (ap (λ (x : List ℕ). x ++ citing_section ++ told_section ++ line (codes "end")) marked_is
+    (ap (λ (x : List ℕ). x ++ citing_section ++ proofs_section ++ statements_section
+    ++ line (codes "end")) marked_is
     ∙ ap₂ (λ (o : Option ℕ) (ls : List Bytes). report request o column_labels (rows_of m ls)
     (citing_rows db request.only c.args.citations.now ls) told) opened_is c.new-labels.ensures)
+    (sent_both
     (sent_both
     (sent_both
     (sent_both (sent_both (sent_equal_text _ head_is c.send_head.ensures)
     c.send_matrix_and_counts.ensures)
     c.send_citations_section.ensures)
+    c.send_proofs_section.ensures)
     c.send_statements_section.ensures)
     c.send_line.ensures) in
     let written =
