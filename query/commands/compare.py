@@ -52,7 +52,8 @@ others; with AXIOM.., all lines are about these.
            general  the old one is an instance of the new one
            same     each of both says what the other says
            Where there is nothing, none of these was seen; one may follow from the other by more
-           than one step, or by another one. Only the first 2000 changed statements are looked at
+           than one step, or by another one. So `weaker` doesn't say that the old statement
+           can't be had from the new one. Only the first 2000 changed statements are looked at
 
 First come the theorems, in file order, then each axiom with what was gained and lost of it. With
 AXIOM.. a changed theorem is listed where only one of its statements rests on one of these. What

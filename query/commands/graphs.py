@@ -23,6 +23,8 @@ from query.reports.database import Database
 
 MOST_LANDMARKS = 1000
 """Each takes a bit at each node of the graph, and a person doesn't look at as many."""
+MOST_NAMED = 10
+"""So many axioms are named that a graph lacks."""
 FIGURE = (
     "  graph [rankdir=TB, ranksep=0.5, nodesep=0.25, splines=true, concentrate=true];",
     '  node [shape=plain, fontname="Helvetica", fontsize=11];',
@@ -89,8 +91,6 @@ def run_graph(context: Context, arguments: argparse.Namespace) -> int:
     part = chosen_part(graph, arguments)
     if part.is_empty():
         context.tell(why_empty(graph, arguments))
-    elif arguments.depth is not None and arguments.on is not None:
-        tell_too_deep(context, graph, arguments)
     elif arguments.depth is not None:
         tell_cut(context, graph, arguments)
     is_of_one = arguments.theorem is not None
@@ -147,25 +147,38 @@ def why_empty(graph: Graph, arguments: argparse.Namespace) -> str:
     return f"{graph.name}: {theorem} cites nothing"
 
 
-def tell_too_deep(context: Context, graph: Graph, arguments: argparse.Namespace) -> None:
-    """Says where no chain to ON is so short that the graph has it."""
-    chain = graph.chain(graph.node(arguments.theorem), graph.node(arguments.on))
-    if len(chain) - 1 > arguments.depth:
-        context.tell(
-            f"{graph.name}: the graph ends before {shown(arguments.on)}: a shortest chain from"
-            f" {shown(arguments.theorem)} has {len(chain) - 1} citations"
-        )
-
-
 def tell_cut(context: Context, graph: Graph, arguments: argparse.Namespace) -> None:
-    """Says how much of what THEOREM rests on is too far away for the graph."""
+    """Says what the graph lacks since it is too far away: ON, some of what is on the chains to it,
+    or some of what THEOREM rests on."""
     start = graph.node(arguments.theorem)
-    farther = len(graph.below([start]) - subgraphs.within(graph, start, arguments.depth) - {start})
-    if farther > 0:
+    theorem, on, depth = shown(arguments.theorem), arguments.on, arguments.depth
+    farther = graph.below([start]) - subgraphs.within(graph, start, depth) - {start}
+    if on is None:
+        if farther:
+            context.tell(
+                f"{graph.name}: the graph ends behind {depth} citations: {theorem} rests on"
+                f" {len(farther)} more assertions{axioms_among(graph, farther)}"
+            )
+        return
+    end = graph.node(on)
+    chain = graph.chain(start, end)
+    if len(chain) - 1 > depth:
         context.tell(
-            f"{graph.name}: the graph ends behind {arguments.depth} citations:"
-            f" {shown(arguments.theorem)} rests on {farther} more assertions"
+            f"{graph.name}: the graph ends before {shown(on)}: a shortest chain from {theorem} has"
+            f" {len(chain) - 1} citations"
         )
+    elif farther & graph.above([end]):
+        context.tell(
+            f"{graph.name}: the graph ends behind {depth} citations: longer chains to {shown(on)}"
+            " are cut"
+        )
+
+
+def axioms_among(graph: Graph, nodes: set[int]) -> str:
+    """The axioms among some nodes, as a part of a sentence; "" where there are none."""
+    axioms = [graph.labels[node] for node in sorted(nodes) if not graph.is_theorem(node)]
+    more = ".." if len(axioms) > MOST_NAMED else ""
+    return f", the axioms {' '.join(axioms[:MOST_NAMED])}{more} among them" if axioms else ""
 
 
 def is_above(graph: Graph, theorem: str, on: str) -> bool:

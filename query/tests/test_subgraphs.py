@@ -11,6 +11,18 @@ from query.tests.test_questions import all_chains
 from query.tests.world import SMALL, Invented, World, invented
 
 Edge = tuple[str, str]
+CUT = re.compile(
+    r"mmquery: db\.mm: the graph ends behind \d+ citations: \w+ rests on (?P<more>\d+) more"
+    r" assertions(?:, the axioms (?P<axioms>[^\n]*?)(?:\.\.)? among them)?\n"
+)
+
+
+def within(database: Invented, label: str, depth: int) -> set[str]:
+    """What at most so many citations lead to from a theorem."""
+    near = {label}
+    for _ in range(depth):
+        near |= {each for one in near for each in database.cites.get(one, [])}
+    return near
 
 
 class Parts(World):
@@ -25,7 +37,8 @@ class Parts(World):
             one, other = line.split(" ")
             found.append((one, other))
         self.assertEqual(len(found), len({*found}))
-        self.assertEqual(bool(found), not done.err)
+        self.cut = re.search(CUT, done.err)
+        self.assertEqual(bool(found), not re.sub(CUT, "", done.err))
         return found
 
     def asked(self, seed: int, theorems: int) -> tuple[Invented, random.Random]:
@@ -41,9 +54,7 @@ class Parts(World):
             database, chance = self.asked(seed, 10)
             for _ in range(3):
                 label, depth = chance.choice(database.theorems()), chance.randint(1, 3)
-                near = {label}
-                for _ in range(depth):
-                    near |= {each for one in near for each in database.cites.get(one, [])}
+                near = within(database, label, depth)
                 wanted = {
                     (one, cited)
                     for one in near
@@ -52,6 +63,10 @@ class Parts(World):
                 }
                 found = self.edges("--depth", str(depth), label)
                 self.assertEqual({*found}, wanted)
+                farther = database.rests(label) - near
+                self.assertEqual(int(self.cut["more"]) if self.cut else 0, len(farther))
+                axioms = farther - {*database.theorems()}
+                self.assertEqual({*((self.cut and self.cut["axioms"]) or "").split()}, axioms)
                 tried += near != {label} | database.rests(label)
         self.assertGreater(tried, 5)
 
@@ -155,7 +170,15 @@ class Parts(World):
                     f"mmquery: db.mm: the graph ends before {end}: a shortest chain from {label}"
                     f" has {far} citations\n"
                 )
-                self.assertEqual(done.err, said if depth < far else "")
+                cut = (
+                    f"mmquery: db.mm: the graph ends behind {depth} citations: longer chains to"
+                    f" {end} are cut\n"
+                )
+                is_cut = any(
+                    len(chain) - 1 > depth and not {*chain} <= within(database, label, depth)
+                    for chain in all_chains(database, label, end)
+                )
+                self.assertEqual(done.err, said if depth < far else cut if is_cut else "")
                 told += depth < far
         self.assertGreater(told, 3)
 
