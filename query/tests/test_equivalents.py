@@ -184,6 +184,10 @@ class Proof:
         return [*sides, *premise, *floating, step.said.label, DETACHED[step.how]]
 
 
+ADVICE = "; --without la gives more of them up"
+"""What is said behind the statement that proves an axiom by another one, `la`."""
+
+
 class Chosen:
     """A database made by chance, with the axiom `ax`."""
 
@@ -423,7 +427,7 @@ class Equivalents(World):
         lines = self.answers("equivalents", "db.mm", "ax", "--format=tsv")
         self.assertEqual(lines[1:], ["proved\tbe\tla\tbe\tBar\tax-mp gen spi be la"])
         done = self.query("equivalents", "db.mm", "ax")
-        self.assertEqual(done.err, "mmquery: db.mm: the others give ax, by be\n")
+        self.assertEqual(done.err, f"mmquery: db.mm: the others give ax, by be{ADVICE}\n")
 
     def test_proved_in_any_order(self) -> None:
         """A statement that another theorem states, which rests on the axiom, is proved whichever of
@@ -433,7 +437,7 @@ class Equivalents(World):
         for lines in (both, both[::-1]):
             self.write("db.mm", text + "".join(lines))
             done = self.query("equivalents", "db.mm", "ax", "--format=csv")
-            self.assertEqual(done.err, "mmquery: db.mm: the others give ax, by two\n")
+            self.assertEqual(done.err, f"mmquery: db.mm: the others give ax, by two{ADVICE}\n")
             found = [line.split(",")[:5] for line in done.lines()[1:]]
             self.assertEqual(found[0], ["proved", "two", "", "two", "Foo"])
             self.assertEqual(found[1:], [["proved", "be", "la", "be", "Bar"]])
