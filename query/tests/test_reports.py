@@ -70,7 +70,7 @@ class Reports(World):
     def test_steps_that_no_proof_has(self) -> None:
         text = self.marks + self.report("small.mm", "--report=proofs")
         line = text[: text.index("\na1i:9:")].count("\n") + 2
-        for steps in ("wp wq *1 wi h", "wp *2 wp wi h"):
+        for steps in ("wp wq *2 wi h", "wp *1 wp wi h"):
             self.write("report", text.replace("wp wq wp wi h", steps))
             self.assertEqual(self.answers("rests", "report", "a2"), ["wi", "ax-1", "ax-mp"])
         for steps in ("wp wq wp wi", "wp wq *3 wi h", "wp wq *0 wi h", "wp wq * wi h"):
