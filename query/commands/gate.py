@@ -276,8 +276,6 @@ def run(context: Context, arguments: argparse.Namespace) -> int:
         context.out.text(piece)
         if arguments.all:
             context.out.flush()
-    if verdict.has_passed and not request.config.name and request.brought is None:
-        context.tell(f"{verdict.database}: no {FILE_NAME} is there, so no axiom is watched")
     if arguments.summary is not None:
         add_summary(arguments.summary, as_summary(verdict, arguments.summary))
     return 0 if verdict.has_passed else 1
