@@ -312,6 +312,8 @@ class ReportPage(World):
             matrix_of_form_2,
             essential,
             citations,
+            proofs,
+            repeating,
             statements,
             open_theorem,
             open_counts,
@@ -325,6 +327,11 @@ class ReportPage(World):
         self.assertIn(matrix_of_form_2, self.report("page.mm", "--form", "2"))
         self.assertEqual(self.report("page.mm", "--essential"), essential)
         self.assertEqual(self.report("page.mm", "--report", "citations"), citations)
+        self.assertEqual(self.report("page.mm", "--report", "proofs"), proofs)
+        self.write("repeating.mm", database + repeating)
+        (line,) = re.findall(r"`(twice:[^`]*)`", page)
+        told = self.report("repeating.mm", "--report", "proofs")
+        self.assertEqual(told.splitlines()[-2], line)
         self.assertEqual(self.report("page.mm", "--report", "statements"), statements)
         self.assertEqual(self.report("open.mm", "--open", "--report", "counts"), open_counts)
 
