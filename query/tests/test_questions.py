@@ -444,6 +444,24 @@ class Questions(World):
             tried += len(rows) > 2
         self.assertGreater(tried, 9)
 
+    def test_a_plan_that_drops_its_first_choice(self) -> None:
+        """`g` frees most at first; but `b` and `c` together free what cites both of them."""
+        both = "".join(f"d{n} $p |- p $= wp wp b wp c both $.\n" for n in range(5))
+        above = "".join(f"e{n} $p |- p $= wp g $.\n" for n in range(2))
+        self.write(
+            "choice.mm",
+            "$c |- wff $. $v p $. wp $f wff p $. ax $a |- p $.\n"
+            "${ m $e |- p $. n $e |- p $. both $a |- p $. $}\n"
+            + "".join(f"{name} $p |- p $= wp ax $.\n" for name in "bcg")
+            + both
+            + above,
+        )
+        plan = asked("frees", str(self.folder / "choice.mm"), "--plan=2", "--", "ax")
+        self.assertEqual([row[2] for row in plan], ["b", "c"])
+        self.assertEqual([row[1] for row in plan], ["1", "7"])
+        first_one = asked("frees", str(self.folder / "choice.mm"), "--plan=1", "--", "ax")
+        self.assertEqual([row[1:] for row in first_one], [["3", "g"]])
+
     def test_plan_by_dropping(self) -> None:
         """What a plan says is free doesn't rest on it any more in the database in which the
         theorems of the plan are left open, and nothing else is free there."""

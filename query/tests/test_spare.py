@@ -181,6 +181,15 @@ class Spare(World):
         self.assertEqual(lines, [f"t1 $p |- {ONE} $=", "  ( wi i both ) AACBBCADBDE $."])
         self.refuses("spare", "db.mm", "bad", "--proof", "t2", why="no new proof of 't2'")
 
+    def test_nothing_to_lose(self) -> None:
+        """That a theorem doesn't rest on an axiom is said without a search."""
+        said = "t1 doesn't rest on near"
+        with mock.patch.object(Changer, "changes", side_effect=AssertionError):
+            done = self.query("spare", "db.mm", "near", "--theorem", "t1", "--write", "same.mm")
+            self.assertEqual((done.status, done.err), (0, f"mmquery: db.mm: {said}\n"))
+            self.refuses("spare", "db.mm", "near", "--proof", "t1", why=f"{said}, so it gets no")
+        self.assertEqual((self.folder / "same.mm").read_text(), SPARE)
+
     def test_words(self) -> None:
         self.refuses("spare", "db.mm", why="an AXIOM is wanted")
         self.refuses("spare", "db.mm", "t1", why="no axiom of typecode '|-' 't1'")
