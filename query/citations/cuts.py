@@ -280,18 +280,34 @@ def freeing(
     return [(freed[node], node) for node in found.theorems]
 
 
-def freed(graph: Graph, end: int, again: set[int], kept: frozenset[int] = NOTHING) -> list[int]:
+class Resting:
+    """The theorems that rest on `end` and aren't kept, in file order, with what each cites of all
+    that rest on it: so it is found for many sets of theorems what they free."""
+
+    def __init__(self, graph: Graph, end: int, kept: frozenset[int] = NOTHING) -> None:
+        above = graph.above([end])
+        self.last = {end} | (kept & above)
+        self.cites = [
+            (node, [cited for cited in graph.cites[node] if cited in above])
+            for node in sorted(above - self.last)
+        ]
+
+    def freed(self, again: Set[int]) -> list[int]:
+        """Those that no longer rest on it if these are proved without it, themselves included."""
+        still = set(self.last)
+        found = []
+        for node, cited in self.cites:
+            if node not in again and not still.isdisjoint(cited):
+                still.add(node)
+            else:
+                found.append(node)
+        return found
+
+
+def freed(graph: Graph, end: int, again: Set[int], kept: frozenset[int] = NOTHING) -> list[int]:
     """The theorems, in file order, that no longer rest on `end` if those of `again` are proved
     without it."""
-    above = graph.above([end])
-    still = {end} | (kept & above)
-    found = []
-    for node in sorted(above - still):
-        if node not in again and not still.isdisjoint(graph.cites[node]):
-            still.add(node)
-        else:
-            found.append(node)
-    return found
+    return Resting(graph, end, kept).freed(again)
 
 
 BEYOND = 5
@@ -333,27 +349,6 @@ def plan(
         yield Advance(theorem, more, total)
 
 
-class Remaining:
-    """Which theorems rest on `end`, and aren't kept, with what each cites of those that do: for
-    many sets of theorems that are proved anew it is counted how many they free."""
-
-    def __init__(self, graph: Graph, end: int, kept: frozenset[int]) -> None:
-        above = graph.above([end])
-        self.resting = {end} | (kept & above)
-        self.cites = [
-            (node, [cited for cited in graph.cites[node] if cited in above])
-            for node in sorted(above - self.resting)
-        ]
-
-    def freed(self, again: Set[int]) -> int:
-        """How many of them these theorems free, themselves included."""
-        still = set(self.resting)
-        for node, cited in self.cites:
-            if node not in again and not still.isdisjoint(cited):
-                still.add(node)
-        return len(self.cites) + len(self.resting) - len(still)
-
-
 def mended_plan(
     graph: Graph,
     end: int,
@@ -367,18 +362,19 @@ def mended_plan(
     chosen: so BEYOND more are chosen, and then the one that is missed least is left out, again and
     again. Where what is left frees more than the first ones do, it is the plan. `tell` gets how far
     it is."""
+    most = steps + (BEYOND if steps <= MOST_MENDED else 0)
     longer: list[Advance] = []
-    for each in islice(plan(graph, end, kept, again, may), steps + BEYOND):
+    for each in islice(plan(graph, end, kept, again, may), most):
         longer.append(each)
-        tell(f"{len(longer)} of {steps + BEYOND} theorems chosen")
-    if steps > MOST_MENDED or len(longer) <= steps:
-        return longer[:steps]
-    remaining = Remaining(graph, end, kept)
+        tell(f"{len(longer)} of {most} theorems chosen")
+    if len(longer) <= steps:
+        return longer
+    resting = Resting(graph, end, kept)
     left = {each.theorem for each in longer}
     total = 0
     while len(left) > steps:
         tell(f"leaving out {len(left) - steps} of {len(left)} theorems")
-        total, dropped = max((remaining.freed(again | left - {each}), each) for each in left)
+        total, dropped = max((len(resting.freed(again | left - {each})), each) for each in left)
         left.remove(dropped)
     if total <= longer[steps - 1].total:
         return longer[:steps]
