@@ -16,10 +16,10 @@ _mmquery() {
             repeats:--how) words='same weaker instance' ;;
             chapters:--level) words='part chapter section subsection' ;;
             chapters:--by) words='rest share' ;;
-            proofs:--by) words='steps depth bytes' ;;
+            proofs:--by) words='steps depth bytes expanded' ;;
             chapters:--between) words='part chapter section subsection' ;;
             discouraged:--outside) words='part chapter section subsection' ;;
-            graph:--as) words='dot graphml edges' ;;
+            needs:--as | graph:--as) words='dot graphml edges' ;;
             cache:cache) words='show clear' ;;
             *)
                 case ${COMP_WORDS[1]}:$word in
@@ -32,22 +32,22 @@ _mmquery() {
                     why:-*) words='--all --longest --unavoidable --only --essential --open --format --no-cache --limit-time --limit-memory -h --help' ;;
                     way-out:-*) words='--keep --keep-wrappers --essential --open --format --before --after --main --mathbox --under --like --not --among --not-among --contributor --since --until --no-cache --limit-time --limit-memory -h --help' ;;
                     frees:-*) words='--most --plan --given --keep --keep-wrappers --essential --open --format --before --after --main --mathbox --under --like --not --among --not-among --contributor --since --until --no-cache --limit-time --limit-memory -h --help' ;;
-                    spare:-*) words='--all --shorter --new-steps --theorem --may-gain --write --proof --only --open --jobs --cite-discouraged --cite-old --cite-mathboxes --change-discouraged --format --no-cache --limit-time --limit-memory -h --help' ;;
+                    spare:-*) words='--all --shorter --new-steps --theorem --may-gain --may-gain-of --write --proof --only --open --jobs --cite-discouraged --cite-old --cite-mathboxes --change-discouraged --format --before --after --main --mathbox --under --like --not --among --not-among --contributor --since --until --no-cache --limit-time --limit-memory -h --help' ;;
                     repeats:-*) words='--only --open --kept --other-mathboxes --how --format --before --after --main --mathbox --under --like --not --among --not-among --contributor --since --until --no-cache --limit-time --limit-memory -h --help' ;;
                     unneeded:-*) words='--hypotheses --disjoint --symbols --through --open --format --before --after --main --mathbox --under --like --not --among --not-among --contributor --since --until --no-cache --limit-time --limit-memory -h --help' ;;
                     top:-*) words='--theorems --below --outside-mathboxes --against --only --all --axioms --ignore-definitions --essential --open --format --before --after --main --mathbox --under --like --not --among --not-among --contributor --since --until --no-cache --limit-time --limit-memory -h --help' ;;
                     sets:-*) words='--together --only --all --axioms --ignore-definitions --essential --open --format --before --after --main --mathbox --under --like --not --among --not-among --contributor --since --until --no-cache --limit-time --limit-memory -h --help' ;;
                     within:-*) words='--list --only --all --axioms --ignore-definitions --essential --open --format --before --after --main --mathbox --under --like --not --among --not-among --contributor --since --until --no-cache --limit-time --limit-memory -h --help' ;;
                     same:-*) words='--only --all --axioms --ignore-definitions --essential --open --format --before --after --main --mathbox --under --like --not --among --not-among --contributor --since --until --no-cache --limit-time --limit-memory -h --help' ;;
-                    compare:-*) words='--only --all --axioms --ignore-definitions --essential --open --format --no-cache --limit-time --limit-memory -h --help' ;;
+                    compare:-*) words='--changed --only --all --axioms --ignore-definitions --essential --open --format --no-cache --limit-time --limit-memory -h --help' ;;
                     review:-*) words='--only --all --axioms --ignore-definitions --essential --open --format --no-cache --limit-time --limit-memory -h --help' ;;
                     history:-*) words='--of --faults --essential --open --format --no-cache --limit-time --limit-memory -h --help' ;;
                     gate:-*) words='--base --merge-base --config --config-of-new --summary --all --to-allow --format --no-cache --limit-time --limit-memory -h --help' ;;
                     chapters:-*) words='--level --by --most --no-empty --any --between --of --only --all --axioms --ignore-definitions --essential --open --format --no-cache --limit-time --limit-memory -h --help' ;;
                     steps:-*) words='--all --open --format --no-cache --limit-time --limit-memory -h --help' ;;
-                    proofs:-*) words='--by --most --essential --open --format --before --after --main --mathbox --under --like --not --among --not-among --contributor --since --until --no-cache --limit-time --limit-memory -h --help' ;;
+                    proofs:-*) words='--by --most --expanded --essential --open --format --before --after --main --mathbox --under --like --not --among --not-among --contributor --since --until --no-cache --limit-time --limit-memory -h --help' ;;
                     contributors:-*) words='--most --open --format --before --after --main --mathbox --under --like --not --among --not-among --contributor --since --until --no-cache --limit-time --limit-memory -h --help' ;;
-                    order:-*) words='--columns --proofs --only --all --axioms --ignore-definitions --essential --open --format --before --after --main --mathbox --under --like --not --among --not-among --contributor --since --until --no-cache --limit-time --limit-memory -h --help' ;;
+                    order:-*) words='--theorems --columns --proofs --only --all --axioms --ignore-definitions --essential --open --format --before --after --main --mathbox --under --like --not --among --not-among --contributor --since --until --no-cache --limit-time --limit-memory -h --help' ;;
                     unfinished:-*) words='--essential --open --format --before --after --main --mathbox --under --like --not --among --not-among --contributor --since --until --no-cache --limit-time --limit-memory -h --help' ;;
                     discouraged:-*) words='--outside --essential --open --format --before --after --main --mathbox --under --like --not --among --not-among --contributor --since --until --no-cache --limit-time --limit-memory -h --help' ;;
                     mathboxes:-*) words='--of --ready --essential --open --format --before --after --main --mathbox --under --like --not --among --not-among --contributor --since --until --no-cache --limit-time --limit-memory -h --help' ;;
@@ -55,9 +55,9 @@ _mmquery() {
                     obsolete:-*) words='--due --essential --open --format --before --after --main --mathbox --under --like --not --among --not-among --contributor --since --until --no-cache --limit-time --limit-memory -h --help' ;;
                     definitions:-*) words='--trust --equality --basis --expand --without --essential --open --format --before --after --main --mathbox --under --like --not --among --not-among --contributor --since --until --no-cache --limit-time --limit-memory -h --help' ;;
                     equivalents:-*) words='--without --only --all --axioms --ignore-definitions --essential --open --format --no-cache --limit-time --limit-memory -h --help' ;;
-                    search:-*) words='--given --no-hypotheses --open --format --before --after --main --mathbox --under --like --not --among --not-among --contributor --since --until --no-cache --limit-time --limit-memory -h --help' ;;
-                    needs:-*) words='--tree --open --format --before --after --main --mathbox --under --like --not --among --not-among --contributor --since --until --no-cache --limit-time --limit-memory -h --help' ;;
-                    drop:-*) words='--under --essential --open --format --no-cache --limit-time --limit-memory -h --help' ;;
+                    search:-*) words='--given --not-given --conclusion --no-hypotheses --open --format --before --after --main --mathbox --under --like --not --among --not-among --contributor --since --until --no-cache --limit-time --limit-memory -h --help' ;;
+                    needs:-*) words='--tree --as --open --format --before --after --main --mathbox --under --like --not --among --not-among --contributor --since --until --no-cache --limit-time --limit-memory -h --help' ;;
+                    drop:-*) words='--under --write --essential --open --format --no-cache --limit-time --limit-memory -h --help' ;;
                     move:-*) words='--to --ready --open --format --before --after --main --mathbox --under --like --not --among --not-among --contributor --since --until --no-cache --limit-time --limit-memory -h --help' ;;
                     graph:-*) words='--as --depth --through --landmarks --essential --open --no-cache --limit-time --limit-memory -h --help' ;;
                     picture:-*) words='--png --svg --across --down --only --all --axioms --ignore-definitions --essential --open --no-cache --limit-time --limit-memory -h --help' ;;

@@ -180,7 +180,8 @@ def header_of(text: Text, name: str, wanted: str, level: int | None = None) -> H
     if len(found) == 1:
         return found[0]
     if found:
-        raise NoAnswer(f"{name}: several headers have {what} '{shown(wanted)}': {listed(found)}")
+        said = f"several headers have {what} '{shown(wanted)}': {listed(found)}"
+        raise NoAnswer(f"{name}: {said}; give the number of one of them")
     short = [each for each in titles if len(each) < LONG_TITLE][:MOST_COMPARED]
     near = difflib.get_close_matches(title[:LONG_TITLE], short, MOST_NEAR)
     meant = f"; near it are {listed([titles[each] for each in near])}" if near else ""
@@ -210,9 +211,8 @@ def mathboxes_of(text: Text, name: str, owner: str) -> frozenset[int]:
     names = {number: each for _, number, each in text.boxed()}
     found = frozenset(number for number, each in names.items() if each == owner)
     if not found:
-        raise NoAnswer(
-            f"{name}: has no mathbox for '{shown(owner)}'{nearest(owner, names.values())}"
-        )
+        meant = nearest(owner, names.values()) or "; `mmquery chapters` lists them"
+        raise NoAnswer(f"{name}: has no mathbox for '{shown(owner)}'{meant if names else ''}")
     return found
 
 

@@ -42,10 +42,12 @@ def labels_of(arguments: argparse.Namespace) -> list[str]:
     return labels
 
 
-def labels_like(words: Sequence[str], known: Iterable[str], name: str) -> list[str]:
+def labels_like(
+    words: Sequence[str], known: Iterable[str], name: str, what: str = "label"
+) -> list[str]:
     """The labels that words name, each once: a pattern those of the known ones that are like it, in
     their order, and another word itself. NoAnswer where none is like a pattern of the database that
-    messages call so."""
+    messages call so; they also say what is known."""
     found: dict[str, None] = {}
     for word in words:
         if "*" not in word and "?" not in word:
@@ -53,6 +55,6 @@ def labels_like(words: Sequence[str], known: Iterable[str], name: str) -> list[s
             continue
         alike = [label for label in known if fnmatchcase(label, word)]
         if not alike:
-            raise NoAnswer(f"{name}: has no label like '{shown(word)}'")
+            raise NoAnswer(f"{name}: has no {what} like '{shown(word)}'")
         found.update(dict.fromkeys(alike))
     return list(found)

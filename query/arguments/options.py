@@ -15,6 +15,12 @@ Given = tuple[argparse.Action, list[str]]
 NEAR_OPTION = 0.6  # by difflib's ratio, at least
 SHARES: dict[int | str | None, str] = {None: "(.)", "+": "(.+)", "*": "(.*)", "?": "(.?)"}
 """How many words an argument takes, as a pattern that has a sign for each."""
+GRAPH_FORMS = ("dot", "graphml", "edges")
+PICTURES = ("svg", "png", "pdf")
+"""Forms that `dot` makes of a graph."""
+LIKE_OPTION = re.compile(r"--[A-Za-z]|-[A-Za-z0-9-]+(?:=|\Z)")
+"""How a word begins that an option may be meant by: `--under-x`, `-q`, and not `->` or `-u A`."""
+BEHIND = "; a formula that looks like an option stands behind --"
 
 
 class Parser(argparse.ArgumentParser):
@@ -26,6 +32,8 @@ class Parser(argparse.ArgumentParser):
         super().__init__(add_help=False, formatter_class=layout)
         self.actions: list[argparse.Action] = []
         self.apart: list[tuple[str, ...]] = []
+        self.takes_formulas = False
+        """Whether its words are formulas, of which some begin with `-`."""
         self.elsewhere: Callable[[str], str] = lambda name: ""
         """Which other commands have an option, as the end of a sentence; "" where none has it."""
 
@@ -67,7 +75,7 @@ class Parser(argparse.ArgumentParser):
         for word in left:
             if word == "--":
                 plain += left
-            elif word.startswith("-") and word != "-":
+            elif self.is_option(word):
                 given.append(self.read_option(word, left))
             else:
                 plain.append(word)
@@ -82,12 +90,20 @@ class Parser(argparse.ArgumentParser):
             action(self, found, meant(action, texts))
         return found
 
+    def is_option(self, word: str) -> bool:
+        """Whether a word is read as an option. Where formulas are wanted, one that no option can be
+        isn't, as `-> ph`, so that it may stand before a `--`."""
+        if self.takes_formulas:
+            return LIKE_OPTION.match(word) is not None
+        return word.startswith("-") and word != "-"
+
     def read_option(self, word: str, left: Iterator[str]) -> Given:
         """An option with its value, which is taken from what is left where it follows."""
         name, sign, value = word.partition("=")
         action = self.options().get(name)
         if action is None:
-            raise NoAnswer(shown(f"there is no option {name}{self.instead_of(name)}"))
+            meant = self.instead_of(name) or (BEHIND if self.takes_formulas else "")
+            raise NoAnswer(shown(f"there is no option {name}{meant}"))
         most = 0 if action.nargs == 0 else 1
         values = [value] if sign else list(islice(left, most))
         if len(values) > most:
@@ -132,6 +148,20 @@ class Parser(argparse.ArgumentParser):
             shared = [(each, plain[slice(*span)]) for each, span in zip(wanted, spans)]
             return [(each, texts) for each, texts in shared if texts or each.nargs == "*"]
         raise NoAnswer(f"{shown(wrong)}; {self.format_usage().strip()}")
+
+
+def form_of_graph(word: str) -> str:
+    """The form that a word names. NoAnswer for that of a picture, which another program makes."""
+    if word in PICTURES:
+        raise NoAnswer(f"no picture is drawn; `--as dot | dot -T{word}` does, with Graphviz")
+    return word
+
+
+def add_form(parser: Parser, about: str, default: str | None = None) -> None:
+    """Adds `--as`, the form of a file with a graph."""
+    parser.add_argument(
+        "--as", dest="form", type=form_of_graph, choices=GRAPH_FORMS, default=default, help=about
+    )
 
 
 def refuse(action: argparse.Action, why: str) -> NoReturn:

@@ -4,7 +4,7 @@ Everything here is about chains of citations that end at one node, `end`, an axi
 Theorems may be `kept`: they rest on it whatever is done, so a chain may end at one of them as well.
 """
 
-from collections.abc import Callable, Iterator, Sequence, Set
+from collections.abc import Callable, Container, Iterable, Iterator, Mapping, Sequence, Set
 from dataclasses import dataclass, field
 from itertools import islice
 
@@ -255,12 +255,28 @@ def unavoidable(graph: Graph, node: int, end: int) -> list[int]:
     """What every chain from a node to `end` leads through, from the one to the other; empty where
     there is no chain."""
     over = Bottlenecks(graph, end).over
-    chain = [node]
-    while chain[-1] != end and chain[-1] in over:
-        before = over[chain[-1]]
-        assert isinstance(before, int)
-        chain.append(before)
-    return chain if chain[-1] == end else []
+    return [node, *behind(over, node, {})] if node in over or node == end else []
+
+
+def unavoidable_for_one(graph: Graph, nodes: Iterable[int], end: int) -> set[int]:
+    """What every chain from one of these nodes to `end` leads through, for any of them; without
+    `end`."""
+    over = Bottlenecks(graph, end).over
+    found: set[int] = set()
+    for node in nodes:
+        found.update((node, *behind(over, node, found)) if node in over else ())
+    return found - {end}
+
+
+def behind(
+    over: Mapping[int | Citation, int | Citation], node: int, known: Container[int]
+) -> Iterator[int]:
+    """The nodes that are one behind the other in a tree, up to one that is known."""
+    while node in over and node not in known:
+        part = over[node]
+        assert isinstance(part, int)
+        node = part
+        yield node
 
 
 def freeing(
@@ -312,6 +328,8 @@ def freed(graph: Graph, end: int, again: Set[int], kept: frozenset[int] = NOTHIN
 
 BEYOND = 5
 """So many theorems more are chosen than a plan has, and then left out again."""
+MOST_EXCHANGED = 20
+"""So often it is tried whether another theorem in place of one of a plan frees more."""
 MOST_MENDED = 30
 """A plan of more theorems is what was chosen first: it takes a walk over the file for each theorem
 that could be left out."""
@@ -360,8 +378,8 @@ def mended_plan(
 ) -> list[Advance]:
     """A plan of so many theorems at the most. What is chosen first may be needless once all are
     chosen: so BEYOND more are chosen, and then the one that is missed least is left out, again and
-    again. Where what is left frees more than the first ones do, it is the plan. `tell` gets how far
-    it is."""
+    again. What is left is the plan where it frees more than the first ones do. Then each theorem is
+    exchanged for another one as long as more is free by that. `tell` gets how far it is."""
     most = steps + (BEYOND if steps <= MOST_MENDED else 0)
     longer: list[Advance] = []
     for each in islice(plan(graph, end, kept, again, may), most):
@@ -376,8 +394,42 @@ def mended_plan(
         tell(f"leaving out {len(left) - steps} of {len(left)} theorems")
         total, dropped = max((len(resting.freed(again | left - {each})), each) for each in left)
         left.remove(dropped)
+    first = {each.theorem for each in longer[:steps]}
     if total <= longer[steps - 1].total:
+        left, total = first, longer[steps - 1].total
+    left = exchanged(graph, end, kept, again, may, left, total, tell)
+    if left == first:
         return longer[:steps]
     chosen = [*plan(graph, end, kept, again, left.__contains__)]
     done = {*again, *(each.theorem for each in chosen)}
     return chosen + [*islice(plan(graph, end, kept, done, may), steps - len(chosen))]
+
+
+def exchanged(
+    graph: Graph,
+    end: int,
+    kept: frozenset[int],
+    again: Set[int],
+    may: Callable[[int], bool],
+    chosen: Set[int],
+    total: int,
+    tell: Callable[[str], object],
+) -> set[int]:
+    """As many theorems, each exchanged for another one as long as more is free by that, until so
+    many were tried. `total` is what is free by `again` and those that are chosen."""
+    resting = Resting(graph, end, kept)
+    best = {*chosen}
+    left = sorted(best)
+    for tried in range(MOST_EXCHANGED):
+        if not left:
+            break
+        one = left.pop()
+        tell(f"exchanging theorems, {tried} of {MOST_EXCHANGED} at most are tried")
+        others = again | best - {one}
+        pairs = [pair for pair in freeing(graph, end, kept, others) if may(pair[1])]
+        more, other = max(pairs, key=lambda pair: pair[0])
+        if len(resting.freed(others)) + more > total:
+            total = len(resting.freed(others)) + more
+            best = best - {one} | {other}
+            left = sorted(best - {other})
+    return best

@@ -19,7 +19,7 @@ from query.arguments.options import (
 )
 from query.citations import cuts
 from query.citations.graph import Graph
-from query.citations.wrappers import wrappers
+from query.citations.wrappers import Kind, wrappers
 from query.commands import Command
 from query.platform import progress
 from query.reports.database import Database
@@ -65,9 +65,12 @@ Without THEOREM, `of` is each theorem for which one citation is enough, with one
 such citation and one for the last.
 
 With --keep LABEL, theorems that need ON anyway: they stay as they are, and what cites them counts
-as what cites ON. With --keep-wrappers these are the theorems that only say ON in another form:
-those whose proof applies ON and nothing else that rests on ON, and those that state what ON states
-but for the variables. Standard error says which they are.
+as what cites ON. With --keep-wrappers these are the theorems that may only say ON in another form:
+those that state what ON states but for the variables, and those whose proof applies ON and nothing
+else that rests on ON. Of the latter nothing more is known: one may as well say less than ON. What
+gives ON back is kept too: where a theorem states ON, and all chains from it lead through T, a proof
+of T without ON would prove ON. Standard error says which they are. They are found by what stands
+there: others may still say ON in other words.
 
   $ mmquery way-out set.mm numth2 ax-ac2
   $ mmquery way-out set.mm ax-ac2
@@ -93,16 +96,19 @@ total    how many are free by then
 theorem  the label of the theorem
 
 Each is the one that frees most next. Of a longer plan some are left out then, the one that is
-missed least first; where that frees more with N theorems, it is the plan. Another choice of N may
-free still more.
+missed least first; where that frees more with N theorems, it is the plan. Then each is exchanged
+for another one as long as that frees more. Another choice of N may free still more.
 
 With --given T, theorems that have such a proof already: this is about the others, and `total`
 counts what is free by T too. The filters choose which theorems a plan may take.
 
 With --keep LABEL, theorems that need ON anyway: they get no other proof, and what cites them rests
-on ON. With --keep-wrappers these are the theorems that only say ON in another form: those whose
-proof applies ON and nothing else that rests on ON, and those that state what ON states but for the
-variables. Standard error says which they are.
+on ON. With --keep-wrappers these are the theorems that may only say ON in another form: those that
+state what ON states but for the variables, and those whose proof applies ON and nothing else that
+rests on ON. Of the latter nothing more is known: one may as well say less than ON. What gives ON
+back is kept too: where a theorem states ON, and all chains from it lead through T, a proof of T
+without ON would prove ON. Standard error says which they are. They are found by what stands there:
+what is listed may still say ON in other words, as an inference says a theorem.
 
   $ mmquery frees set.mm ax-ac2 axac3
   $ mmquery frees set.mm ax-ac2 --keep axac3
@@ -262,7 +268,7 @@ def add_keep(parser: Parser) -> None:
     parser.values(
         "--keep", "LABEL", "a theorem that needs ON anyway; several: by commas, or more options"
     )
-    parser.flag("--keep-wrappers", "keep the theorems that only say ON in another form")
+    parser.flag("--keep-wrappers", "keep the theorems that may only say ON in another form")
 
 
 def kept_in(
@@ -275,7 +281,10 @@ def kept_in(
         return named
     found = wrappers(graph, database.text, end)
     if found:
-        context.tell(f"kept as wrappers: {', '.join(graph.labels[node] for node in found)}")
+        labels = graph.labels
+        direct = [labels[node] for node, kind in found.items() if kind is Kind.APPLIES]
+        said = f"; {Kind.APPLIES.said(direct, labels[end])}" if direct else ""
+        context.tell(f"kept as wrappers: {', '.join(labels[node] for node in found)}{said}")
     else:
         context.tell(f"{graph.name}: no theorem only wraps {graph.labels[end]}")
     return named | frozenset(found)
@@ -366,7 +375,8 @@ def run_frees(context: Context, arguments: argparse.Namespace) -> int:
     for node in given & kept:
         raise NoAnswer(f"{graph.name}: {graph.labels[node]} is kept, so --given can't name it")
     says_more = arguments.keep_wrappers or database.is_report
-    asked = Asked(graph, end, kept, given, None if says_more else database.text)
+    text = None if says_more else database.text
+    asked = Asked(graph, end, kept, given, text, context.out.format == "text")
     if arguments.theorems:
         order = "ON comes first, and THEOREMs behind it"
         again = {graph.theorem(label, end, order) for label in arguments.theorems}
@@ -387,14 +397,28 @@ class Asked:
     kept: frozenset[int]
     given: frozenset[int]
     text: Text | None
-    """The text, where it may be told that a theorem only says ON in another form."""
+    """The text, where it may be told that a theorem wraps ON."""
+    is_read: bool
+    """Whether the answer is in the form text, so that somebody is there to judge what it lists."""
 
-    def remark(self, node: int) -> str:
-        """That a theorem only says ON in another form; "" where it says more."""
-        if self.text is None or node not in wrappers(self.graph, self.text, self.end):
-            return ""
-        theorem, on = self.graph.labels[node], self.graph.labels[self.end]
-        return f"{theorem} only says {on} in another form, and --keep-wrappers keeps such theorems"
+    def remark(self, nodes: Sequence[int]) -> str:
+        """What is to say of the theorems that are listed; "" where nothing is."""
+        on = self.graph.labels[self.end]
+        said = [] if self.text is None else [self.wrapping(self.text, nodes)]
+        if self.is_read and nodes:
+            may = f"what is listed may still say {on} in other words"
+            said.append(f"{may}, and --keep LABEL takes such a one out")
+        return "; ".join(filter(None, said))
+
+    def wrapping(self, text: Text, nodes: Sequence[int]) -> str:
+        """That some of these theorems wrap ON; "" where none does."""
+        kinds, labels = wrappers(self.graph, text, self.end), self.graph.labels
+        said = []
+        for kind in Kind:
+            found = [labels[node] for node in nodes if kinds.get(node) is kind]
+            if found:
+                said.append(kind.said(found, labels[self.end]))
+        return f"{'; '.join(said)}, and --keep-wrappers keeps such theorems" if said else ""
 
 
 def put_freed(context: Context, asked: Asked, again: set[int]) -> None:
@@ -429,14 +453,17 @@ def put_plan(context: Context, asked: Asked, steps: int) -> None:
     context.out.table(["freed", "total", "theorem"], rows)
     resting = graph.above([end]) - {end}
     if rows:
-        count = len(resting & kept)
-        are_kept = f", {count} of which {'are' if count > 1 else 'is'} kept" if count else ""
-        remark = asked.remark(chosen[0])
+        count, total = len(resting & kept), len(resting)
+        are_kept = f"; {count} of these {'are' if count > 1 else 'is'} kept" if count else ""
+        bound = ""
+        if len(rows) < steps:
+            bound = "; no further theorem frees more"
+        elif len(rows) > 1 and asked.is_read and advances[-1].total < total - count:
+            bound = f"; another choice of {len(rows)} may free more"
+        remark = asked.remark(chosen)
         context.tell(
-            f"{graph.name}: free are then {rows[-1][1]} of {len(resting)} that rest on"
-            f" {graph.labels[end]}{are_kept}"
-            f"{'; no other theorem frees more' if len(rows) < steps else ''}"
-            f"{remark and f'; {remark}'}"
+            f"{graph.name}: free are then {rows[-1][1]} of the {total} that rest on"
+            f" {graph.labels[end]}{are_kept}{bound}{remark and f'; {remark}'}"
         )
     elif cuts.freeing(graph, end, kept, asked.given):
         context.tell(f"{graph.name}: none that rests on {graph.labels[end]} passes the filters")
@@ -452,7 +479,7 @@ def put_most(context: Context, asked: Asked, most: int) -> None:
         context.tell(nothing_left(asked))
     found: list[list[Value]] = [[freed, asked.graph.labels[node]] for freed, node in freeing]
     listed = context.passing(found, 1)
-    remark = asked.remark(asked.graph.node(str(listed[0][1]))) if listed else ""
+    remark = asked.remark([asked.graph.node(str(label)) for _, label in listed[:most]])
     context.out.table(FREED, context.first(listed, most, also=remark))
 
 

@@ -2,7 +2,7 @@
 
 import argparse
 from collections.abc import Iterator, Mapping
-from dataclasses import dataclass
+from dataclasses import dataclass, replace
 
 from query.answers.errors import NoAnswer, shown
 from query.answers.output import Value
@@ -13,6 +13,7 @@ from query.comparisons.changed_statements import COLUMNS as BOTH, Change, change
 from query.comparisons.changes import Comparison, side_by_side
 from query.comparisons.pairing import SAME_THEOREM, Pairing
 from query.program.source import is_same_file
+from query.reports.choice import Options
 from query.spare.relations import relations
 
 Row = tuple[Value, ...]
@@ -20,18 +21,23 @@ COLUMNS = ("change", "kind", "label", "was", "axiom", "citing", "cited", *BOTH)
 
 PAGE = """
 Compares two databases, OLD and NEW. The axioms are those of typecode |- unless the options choose
-others; with AXIOM.., all lines are about these.
+others; with AXIOM.., all lines are about these. With --changed, only the lines `changed`, and the
+axioms are those of any typecode unless --only names one.
 
-  change   new      only NEW has it
-           gone     only OLD has it
+  change   new      only NEW has the label, and it isn't renamed
+           gone     only OLD has the label, and its statement isn't renamed
            renamed  the same statement, under another label: its formula, its hypotheses in order,
                     and the pairs of its variables that must be distinct. This is a guess
-           changed  the same label, another statement. Such a theorem neither gains nor loses an
-                    axiom, since it isn't one of both, unless only the order of its `$f` is other
-                    or the names of its variables are
+           changed  both have the label, with another statement. It is told of each such label,
+                    also where it is renamed, or its old statement is. Such a theorem neither gains
+                    nor loses an axiom, since it isn't one of both, unless only the order of its
+                    `$f` is other or the names of its variables are; but one that is renamed does,
+                    beside its old label
            gained   a theorem of both that came to rest on an axiom
            lost     a theorem of both that no longer rests on one
-  kind     axiom or theorem
+  kind     axiom or theorem. A label that is an axiom's in one and a theorem's in the other is gone
+           as the one and new as the other if it says the same. If it says something else, it is
+           changed, and the kind is that of NEW
   label    which one: its label in NEW, or in OLD for `gone` and `lost`
   was      for `renamed` its label in OLD
   axiom    for `gained` and `lost` which axiom
@@ -45,8 +51,9 @@ others; with AXIOM.., all lines are about these.
   how      for `changed` what the new statement is beside the old one, as far as one step shows it:
            weaker   the same, with more hypotheses or more conditions of distinct variables; or what
                     an inference of both databases gives from the old one or an instance of it, such
-                    as `a1i` of set.mm, which puts an antecedent before a formula. Inferences have
-                    one hypothesis, which is a variable, and no conditions of distinct variables
+                    as `a1i` of set.mm, which puts an antecedent before a formula, or `mptru`, which
+                    takes one away that is true. Inferences have one hypothesis, which is a variable
+                    or from which a variable follows, and no conditions of distinct variables
            instance what the old one says with other formulas for its variables
            stronger the old one is weaker than the new one
            general  the old one is an instance of the new one
@@ -60,9 +67,15 @@ AXIOM.. a changed theorem is listed where only one of its statements rests on on
 only one of both has, and what rests on more or on less, is what `mmdepend --against OLD NEW` says.
 Its answer is proved. So OLD and NEW are databases, and not reports. That two labels are those of
 one statement is a guess: an axiom or theorem that was renamed is the same one to what is gained.
+Proofs aren't compared: `review` tells which theorems have another one.
 
   $ mmquery compare v1:set.mm set.mm ax-ac2 ax-reg
+  $ mmquery compare v1:set.mm set.mm --changed
 """
+
+CHANGED = "changed"
+EMPTY_OF_CHANGED = ("was", "axiom", "citing", "cited")
+"""The columns that have nothing for what was changed."""
 
 
 def configure(parser: Parser) -> None:
@@ -70,7 +83,16 @@ def configure(parser: Parser) -> None:
     add_database(parser, "OLD")
     add_database(parser, "NEW")
     parser.add_argument("axiom", metavar="AXIOM", nargs="*", help="only what is about these axioms")
+    parser.flag("--changed", "only what says something else, axioms of any typecode too")
     add_choice_of_axioms(parser)
+
+
+def chosen_in(arguments: argparse.Namespace) -> Options:
+    """Which axioms are meant. Who asks what was changed means rules of syntax too: what statements
+    mean depends on them."""
+    options = options_of(arguments)
+    is_any = arguments.changed and arguments.only is None
+    return replace(options, only=None) if is_any else options
 
 
 @dataclass(frozen=True)
@@ -108,7 +130,7 @@ def change_rows(comparison: Comparison, kind: str, telling: Telling) -> Iterator
     for label, old in pairing.renamed.items():
         yield ("renamed", kind, label, old, *nothing)
     for each in changes(comparison, kind, telling.most, telling.hows):
-        yield ("changed", kind, each.label, None, None, None, None, *each.values())
+        yield (CHANGED, kind, each.label, None, None, None, None, *each.values())
     for label in pairing.gone:
         yield ("gone", kind, label, None, *nothing)
 
@@ -144,8 +166,12 @@ def see_axioms(comparison: Comparison, labels: list[str]) -> None:
             raise NoAnswer(f"neither {names} has an axiom '{shown(label)}' among those chosen")
 
 
-def about_axioms(comparison: Comparison, named: list[str], telling: Telling) -> Iterator[Row]:
-    """The rows about each axiom, or about those named."""
+def about_axioms(
+    comparison: Comparison, named: list[str], telling: Telling, has_shifts: bool
+) -> Iterator[Row]:
+    """The rows about each axiom, or about those named; `has_shifts` is whether these say what was
+    gained and lost. A label of OLD and NEW may be of two axioms, and has its rows once, with the
+    first of these."""
     about: dict[str, list[Row]] = {}
     for row in change_rows(comparison, "axiom", telling):
         about.setdefault(str(row[2]), []).append(row)
@@ -154,13 +180,14 @@ def about_axioms(comparison: Comparison, named: list[str], telling: Telling) -> 
             continue
         for label in dict.fromkeys((new, old)):
             if label is not None:
-                yield from about.get(label, ())
-        yield from shifts_of(comparison, old, new)
+                yield from about.pop(label, ())
+        if has_shifts:
+            yield from shifts_of(comparison, old, new)
 
 
 def about_theorems(comparison: Comparison, named: list[str], telling: Telling) -> Iterator[Row]:
     """The rows about theorems; where axioms are named, of those that say something else now, and of
-    which only one of both statements rests on one of the axioms."""
+    which only one of both statements rests on one of the axioms, or was one."""
     rows = change_rows(comparison, "theorem", telling)
     if not named:
         yield from rows
@@ -168,15 +195,15 @@ def about_theorems(comparison: Comparison, named: list[str], telling: Telling) -
     axioms = [pair for pair in axioms_of(comparison) if not {*pair}.isdisjoint(named)]
     old, new = ({pair[side] for pair in axioms} for side in (0, 1))
     for row in rows:
-        if row[0] == "changed" and row[2] in comparison.restated:
+        if row[0] == CHANGED and row[2] in comparison.restated:
             gained, lost = comparison.shift(str(row[2]), str(row[2]))
-            if not new.isdisjoint(gained) or not old.isdisjoint(lost):
+            if row[2] in old or not new.isdisjoint(gained) or not old.isdisjoint(lost):
                 yield row
 
 
-def compared(context: Context, arguments: argparse.Namespace) -> Comparison:
+def compared(context: Context, arguments: argparse.Namespace, options: Options) -> Comparison:
     """OLD and NEW side by side."""
-    words, options = (arguments.old, arguments.new), options_of(arguments)
+    words = (arguments.old, arguments.new)
     if words == ("-", "-"):
         raise NoAnswer("only one of two databases can be the standard input")
     old, new = (context.database(word, options) for word in words)
@@ -204,16 +231,20 @@ def the_same_theorems(*pairings: Pairing) -> dict[str, list[str]]:
 
 def run(context: Context, arguments: argparse.Namespace) -> int:
     """Answers."""
-    comparison = compared(context, arguments)
+    comparison = compared(context, arguments, chosen_in(arguments))
     see_axioms(comparison, arguments.axiom)
     telling = Telling(most_of(context.out.format), hows_of(comparison))
     rows = [*about_theorems(comparison, arguments.axiom, telling)]
-    rows += about_axioms(comparison, arguments.axiom, telling)
+    rows += about_axioms(comparison, arguments.axiom, telling, not arguments.changed)
+    aside: tuple[str, ...] = BOTH
+    if arguments.changed:
+        rows = [row for row in rows if row[0] == CHANGED]
+        aside = (*EMPTY_OF_CHANGED, *BOTH)
     empty = why_empty(arguments, comparison, "don't differ in this")
     remarks = the_same_theorems(comparison.theorems, comparison.axioms)
-    context.table(COLUMNS, rows, empty, aside=BOTH, remarks=remarks)
+    context.table(COLUMNS, rows, empty, aside=aside, remarks=remarks)
     if context.out.format == "text":
-        changed = [row for row in rows if row[0] == "changed"]
+        changed = [row for row in rows if row[0] == CHANGED]
         for line in lines_of(change_in(row, telling) for row in changed):
             context.out.line(line)
     return 0

@@ -12,6 +12,7 @@ from query.arguments.options import (
     Parser,
     add_choice_of_citations,
     add_database,
+    add_form,
     add_open,
     between_commas,
     options_of,
@@ -32,6 +33,7 @@ from query.definitions.soundness import (
     rests_by,
 )
 from query.definitions.unfolding import statement, without
+from query.exports.graph_files import Kinds, lines_of
 from query.platform import progress
 from query.reports.database import Database
 from query.texts.assertions import Assertion
@@ -44,11 +46,17 @@ can be proved without it. With LABELs only these.
 
 definition  its label
 sound       yes: all conditions are kept
-            no: one is broken; the status is 1 then
-            not judged: it isn't seen whether all are kept
+            no: one is broken, by what shows that the definition is wrong: it may prove what the
+            axioms don't, or it leaves out cases, as by a $d of two variables of LEFT
+            not judged: one isn't seen to be kept, or it isn't LEFT = RIGHT, or has a $e. The
+            definition may be right, or prove F.; it counts as an axiom, and not as sound
             on trust: it is taken as an axiom
 why_not     why it isn't sound or not judged, or would not be sound
 condition   the name of the condition
+
+The status is 1 if one is `no`, and with LABELs also if one of these is `not judged`. So it is 0
+for LABELs only if each is `yes` or on trust; filters such as --like name none. The gate lets in
+neither `no` nor `not judged`, unless mmdepend.toml has the whole label.
 
 The conditions are these. The page SOUNDNESS says what follows from them, and why.
 
@@ -90,8 +98,17 @@ definition  that of its definition
 above       whether what comes under it stands further up already, and isn't repeated
 says        the form, with typecodes in place of variables
 
+With --as, the same as a file for another program, as `graph` writes it: an arrow leads from LABEL
+to each form of its statement, and from each form to those of its definition.
+
+--as dot      for `dot`, a program of Graphviz; primitive forms are boxes
+--as graphml  for NetworkX and Gephi; the data `kind` of a node is `primitive` or `defined`, which
+              is also that of LABEL
+--as edges    a line for each arrow: LABEL or a form, a space, and the form that it needs
+
   $ mmquery needs set.mm 2p2e4
   $ mmquery needs set.mm df-ss --tree
+  $ mmquery needs set.mm df-sqrt --as dot | dot -Tsvg > sqrt.svg
 """
 COLUMNS = ("definition", "sound", "why_not", "condition")
 LEVELS = {NO: "error", UNKNOWN: "warning"}
@@ -174,13 +191,16 @@ def put_verdicts(
     ]
     passing = [found.verdicts[str(row[0])] for row in context.passing(rows)]
     if any(each.sound != YES for each in passing):
-        context.tell(f"{database.name}: {in_short(passing)}")
+        is_all = len(passing) == len(found.verdicts)
+        context.tell(f"{database.name}: {in_short(passing, is_all)}")
     if context.out.format == "github":
         context.out.text("".join(annotations(database, passing)))
     else:
         shown_rows = [[each.label, each.sound, each.why, each.condition] for each in passing]
         context.out.table(COLUMNS, shown_rows)
-    return 1 if any(each.sound == NO for each in passing) else 0
+    # Who names a definition asks about it; the others may have one that can't be judged for years.
+    failing = (NO, UNKNOWN) if labels else (NO,)
+    return 1 if any(each.sound in failing for each in passing) else 0
 
 
 def see_definition(database: Database, found: Definitions, label: str) -> str:
@@ -191,10 +211,13 @@ def see_definition(database: Database, found: Definitions, label: str) -> str:
     return label
 
 
-def in_short(verdicts: list[Verdict]) -> str:
-    """How many there are of each kind, and which are on trust."""
+def in_short(verdicts: list[Verdict], is_all: bool) -> str:
+    """How many there are of each kind, and which are on trust; also where none of all that the
+    database has could be judged."""
     counts = {word: sum(each.sound == word for each in verdicts) for word in (YES, NO, UNKNOWN)}
     said = f"{counts[YES]} sound, {counts[NO]} not, {counts[UNKNOWN]} not judged"
+    if is_all and counts[UNKNOWN] and not counts[YES] + counts[NO]:
+        said = f"no definition could be judged: {said}"
     trusted = [each.label for each in verdicts if each.sound == TRUST]
     return said + (f"; on trust: {', '.join(trusted)}" if trusted else "")
 
@@ -216,6 +239,9 @@ def configure_needs(parser: Parser) -> None:
     add_database(parser)
     parser.add_argument("label", metavar="LABEL")
     parser.flag("--tree", "as a tree")
+    add_form(parser, "as a graph, in a file of this form")
+    parser.exclude("--tree", "--as")
+    parser.exclude("--format", "--as")
     add_open(parser)
 
 
@@ -225,6 +251,9 @@ def run_needs(context: Context, arguments: argparse.Namespace) -> int:
     one = database.assertion(arguments.label)
     needs = Needs(judged(database, [], []))
     empty = f"{database.name}: the statement of {shown(one.label)} has variables alone"
+    if arguments.form is not None:
+        put_graph(context, database, needs, one, arguments.form)
+        return 0
     if arguments.tree:
         put_branches(context, needs, one, empty)
         return 0
@@ -236,6 +265,17 @@ def run_needs(context: Context, arguments: argparse.Namespace) -> int:
     rows.sort(key=lambda row: text.by_label[str(row[0])].number)
     context.table(("form", "definition", "sound", "depth", "says"), rows, empty, "form")
     return 0
+
+
+def put_graph(
+    context: Context, database: Database, needs: Needs, one: Assertion, form: str
+) -> None:
+    """Answers `needs --as`. A form that doesn't pass the filters isn't in the graph."""
+    part = needs.part(one, context.test())
+    if part.is_empty():
+        context.tell(f"{database.name}: {shown(one.label)} needs no form besides")
+    lines = lines_of(part, form, one.label, True, kinds=Kinds("defined", "primitive"))
+    context.out.text("".join(line + "\n" for line in lines))
 
 
 def put_branches(context: Context, needs: Needs, one: Assertion, empty: str) -> None:

@@ -1,7 +1,7 @@
 """`equivalents`: which statements give an axiom back."""
 
 import argparse
-from collections.abc import Iterable
+from collections.abc import Iterable, Iterator
 
 from query.answers.output import Value
 from query.arguments.context import Context
@@ -13,6 +13,7 @@ from query.arguments.options import (
     options_of,
 )
 from query.citations.graph import Graph
+from query.citations.wrappers import Kind, wrappers
 from query.commands import Command
 from query.formulas.equivalents import Found, Links, Search
 from query.reports.database import Database
@@ -37,7 +38,9 @@ rests      the axioms on which all these rest, besides AX; in the form text only
            chooses axioms
 
 Of distinct variables neither a link may ask more than AX does, nor an assertion that states what
-leads to AX. What isn't said by such links isn't found.
+leads to AX. What isn't said by such links isn't found. Where no row has a link, so that all only
+restate AX, standard error says so, and also through which theorems all chains from one of them to
+AX lead: a proof of these without AX would prove AX.
 
   $ mmquery equivalents set.mm ax-ac2
   $ mmquery equivalents set.mm ax-ac2 --axioms ax-
@@ -69,12 +72,36 @@ def run(context: Context, arguments: argparse.Namespace) -> int:
     is_chosen = arguments.only or arguments.all or arguments.axioms or arguments.ignore_definitions
     why = f"{database.name}: no statement is found that gives {arguments.axiom} back"
     context.table(COLUMNS, rows, why, aside=[] if is_chosen else ["rests"])
+    said = [*told_of_proved(rows, arguments.axiom, others)]
+    said += told_of_links(database, rows, arguments.axiom)
+    if said:
+        context.tell(f"{database.name}: {'; '.join(said)}")
+    return 0
+
+
+def told_of_proved(rows: list[list[Value]], axiom: str, others: list[str]) -> Iterator[str]:
+    """That what isn't given up proves the axiom, where it does."""
     proved = next((row for row in rows if row[0] == "proved"), None)
     if proved is not None:
         named = ",".join([*others, *last_of(proved[-1])])
         advice = f"; --without {named} gives more of them up" if named else ""
-        context.tell(f"{database.name}: the others give {arguments.axiom}, by {proved[1]}{advice}")
-    return 0
+        yield f"the others give {axiom}, by {proved[1]}{advice}"
+
+
+def told_of_links(database: Database, rows: list[list[Value]], axiom: str) -> Iterator[str]:
+    """That all which is found says what the axiom says, where no row has a link; and then what all
+    chains from such a theorem to the axiom lead through."""
+    if not rows or any(row[COLUMNS.index("by")] for row in rows):
+        return
+    yield (
+        f"only restatements are found: no link leads to {axiom} from another statement, and"
+        " proofs that are more than chains of links aren't looked for"
+    )
+    graph = database.graph()
+    kinds = wrappers(graph, database.text, graph.node(axiom))
+    labels = [graph.labels[node] for node, kind in kinds.items() if kind is Kind.GIVES_BACK]
+    if labels:
+        yield Kind.GIVES_BACK.said(labels, axiom)
 
 
 def labels_above(graph: Graph, labels: Iterable[str]) -> set[str]:

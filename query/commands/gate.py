@@ -17,7 +17,7 @@ from query.gate.branch import branch_of, request_of
 from query.gate.config import FILE_NAME, content_of, find_config, load_config
 from query.gate.finding import Finding
 from query.gate.forms import FORMS, Verdict, as_summary
-from query.gate.request import Request, config_in, with_brought
+from query.gate.request import Request, config_in, notes_on, with_brought
 from query.gate.rules import Case, judge
 from query.gate.weakened import losses, mended
 from query.platform import limits
@@ -44,7 +44,8 @@ off. The status is 1 where
   watched      a watched axiom is missing, or its label is another one's
   newly        a theorem that was there before newly rests on a watched axiom; one that was renamed
                (a guess: the same statement under another label) was there
-  new          a new theorem rests on a watched axiom
+  new          a new theorem rests on a watched axiom, or one that took over the label of another
+               statement of the base, which has another label now
   claims       a theorem rests on an axiom that mmdepend.toml claims it avoids
   avoids       the same of a comment $( $j usage 'T' avoids 'A'; $), or that comment is gone
   open         a theorem is left open: its proof is ?
@@ -57,12 +58,14 @@ off. The status is 1 where
   config       the mmdepend.toml that is brought asks less than the base's
   valid        the database is refused, or compressed
 
-unless mmdepend.toml allows it. Which statements came in and went, and which theorems rest on more,
-is what `mmdepend --against` says, whose answer is proved. An mmdepend.toml that is brought judges
-as well. Each line has file, line, label, reason and rule; the last line says what was compared.
-What one changed proof does to many theorems is one finding, and at most 1000 are told; --all tells
-each theorem, and all of them. --format github writes annotations, and --format log what no server
-takes for a command.
+unless mmdepend.toml allows it. That a theorem of both says something else, under the label that it
+had, breaks no rule: a note names such theorems, and `review` shows both statements. Which
+statements came in and went, and which theorems rest on more, is what `mmdepend --against` says,
+whose answer is proved. An mmdepend.toml that is brought judges as well. Each line has file, line,
+label, reason and rule; the last line says what was compared, without OLD also with the commits, and
+if no axiom is watched. What one changed proof does to many theorems is one finding, and at most
+1000 are told; --all tells each theorem, and all of them. --format github writes annotations, and
+--format log what no server takes for a command.
 
 `newly = "main"` and `new = "main"` leave theorems of mathboxes, as --main of other commands does.
 But what the base has in its main part is judged wherever it stands now, and so is what stands where
@@ -167,8 +170,11 @@ def with_base(arguments: argparse.Namespace) -> Request:
     return request
 
 
-def found_in(request: Request, context: Context, tells_all: bool) -> Iterator[Finding]:
-    """What breaks the rules. That NEW is refused breaks one too."""
+def found_in(
+    request: Request, context: Context, tells_all: bool, notes: list[str]
+) -> Iterator[Finding]:
+    """What breaks the rules. That NEW is refused breaks one too. What was changed and breaks none
+    is added to the notes."""
     packer = packer_of(request.new.data)
     if packer is not None:
         reason = f"compressed by {packer}; in git a database is plain text"
@@ -183,6 +189,7 @@ def found_in(request: Request, context: Context, tells_all: bool) -> Iterator[Fi
         yield refusal_of(refused)
         return
     see_share(old, new, comparison.differences.taken)
+    notes += notes_on(comparison)
     yield from judged(comparison, request, tells_all)
 
 
@@ -270,8 +277,9 @@ def run(context: Context, arguments: argparse.Namespace) -> int:
     else:
         request = with_base(arguments)
     limits.choose(limits.chosen().or_else(request.config.limits))
-    found = found_in(request, context, arguments.all)
-    verdict = Verdict(request, found, tells_allowing=arguments.to_allow)
+    notes: list[str] = []
+    found = found_in(request, context, arguments.all, notes)
+    verdict = Verdict(request, found, notes, tells_allowing=arguments.to_allow)
     for piece in FORMS[context.out.format](verdict, not arguments.all):
         context.out.text(piece)
         if arguments.all:

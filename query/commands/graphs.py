@@ -2,8 +2,6 @@
 
 import argparse
 import os
-from collections.abc import Iterable, Mapping, Sequence
-from dataclasses import dataclass, field
 
 from query.answers.errors import NoAnswer, shown
 from query.arguments.context import Context
@@ -12,6 +10,7 @@ from query.arguments.options import (
     add_choice_of_axioms,
     add_choice_of_citations,
     add_database,
+    add_form,
     options_of,
     positive,
 )
@@ -19,18 +18,13 @@ from query.citations import subgraphs
 from query.citations.graph import Graph
 from query.citations.subgraphs import Part
 from query.commands import Command
+from query.exports.graph_files import FIGURE, Look, lines_of
 from query.reports.database import Database
 
 MOST_LANDMARKS = 1000
 """Each takes a bit at each node of the graph, and a person doesn't look at as many."""
 MOST_NAMED = 10
 """So many axioms are named that a graph lacks."""
-FIGURE = (
-    "  graph [rankdir=TB, ranksep=0.5, nodesep=0.25, splines=true, concentrate=true];",
-    '  node [shape=plain, fontname="Helvetica", fontsize=11];',
-    '  edge [color="#555555", arrowsize=0.6];',
-)
-"""The look of landmarks."""
 
 GRAPH_PAGE = """
 Writes the graph of citations: an arrow leads from each theorem to what its proof applies. With
@@ -71,13 +65,7 @@ def configure_graph(parser: Parser) -> None:
     add_database(parser)
     parser.add_argument("theorem", metavar="THEOREM", nargs="?")
     parser.add_argument("on", metavar="ON", nargs="?")
-    parser.add_argument(
-        "--as",
-        dest="form",
-        choices=("dot", "graphml", "edges"),
-        default="dot",
-        help="the form of the file (else: dot)",
-    )
+    add_form(parser, "the form of the file (else: dot)", "dot")
     parser.value("--depth", "N", "what at most N citations lead to", type=positive)
     parser.value("--through", "LABEL", "only chains that lead through LABEL")
     parser.value("--landmarks", "N", "the N theorems in which most comes together", type=positive)
@@ -93,14 +81,10 @@ def run_graph(context: Context, arguments: argparse.Namespace) -> int:
         context.tell(why_empty(graph, arguments))
     elif arguments.depth is not None:
         tell_cut(context, graph, arguments)
-    is_of_one = arguments.theorem is not None
-    if arguments.form == "edges":
-        lines = edges(part)
-    elif arguments.form == "dot":
-        name = arguments.theorem or os.path.basename(arguments.database)
-        lines = dot(part, name, is_of_one, look(database, part, arguments.landmarks is not None))
-    else:
-        lines = graphml(part, is_of_one)
+    name = arguments.theorem or os.path.basename(arguments.database)
+    is_figure = arguments.form == "dot" and arguments.landmarks is not None
+    looks = look(database, part, is_figure)
+    lines = lines_of(part, arguments.form, name, arguments.theorem is not None, looks)
     context.out.text("".join(line + "\n" for line in lines))
     return 0
 
@@ -113,7 +97,8 @@ def chosen_part(graph: Graph, arguments: argparse.Namespace) -> Part:
                 raise NoAnswer(f"--{option} is about the graph of a THEOREM, so it wants one")
         return subgraphs.whole(graph)
     end = None if arguments.on is None else graph.node(arguments.on)
-    start = graph.theorem(arguments.theorem, end, "THEOREM comes first, and ON behind it")
+    order = "THEOREM comes first, and ON behind it"
+    start = graph.theorem(arguments.theorem, end, order, "`needs` shows what is under its symbols")
     nodes = graph.below([start])
     if end is not None:
         nodes &= graph.above([end])
@@ -186,23 +171,6 @@ def is_above(graph: Graph, theorem: str, on: str) -> bool:
     return theorem != on and bool(graph.chain(graph.node(theorem), graph.node(on)))
 
 
-def edges(part: Part) -> Iterable[str]:
-    """The lines of the form `edges`."""
-    labels = part.graph.labels
-    for node in part.theorems(False):
-        for cited in part.arrows[node]:
-            yield f"{labels[node]} {labels[cited]}"
-
-
-@dataclass(frozen=True)
-class Look:
-    """How a figure looks: `head` are lines at its beginning, and `chapters` has a line under the
-    label of each node."""
-
-    head: Sequence[str] = ()
-    chapters: Mapping[int, str] = field(default_factory=dict)
-
-
 def look(database: Database, part: Part, is_figure: bool) -> Look:
     """The look of a figure; of other graphs just nodes and arrows are shown."""
     if not is_figure:
@@ -215,46 +183,6 @@ def look(database: Database, part: Part, is_figure: bool) -> Look:
             if number is not None:
                 chapters[node] = number
     return Look(FIGURE, chapters)
-
-
-def dot(part: Part, name: str, downwards: bool, looks: Look) -> Iterable[str]:
-    """The lines of the form `dot`. A theorem without an arrow has a line of its own."""
-    graph, labels = part.graph, part.graph.labels
-    yield 'digraph "%s" {' % "".join("_" if sign in '"\\\n\r' else sign for sign in name)
-    yield from looks.head
-    for node, chapter in looks.chapters.items():
-        yield f'  "{labels[node]}" [label="{labels[node]}\\n{chapter}"];'
-    shown_axioms: set[int] = set()
-    cited_at_all = {cited for arrows in part.arrows.values() for cited in arrows}
-    for node in part.theorems(downwards):
-        for cited in part.arrows[node]:
-            if not graph.is_theorem(cited) and cited not in shown_axioms:
-                shown_axioms.add(cited)
-                yield f'  "{labels[cited]}" [shape=box];'
-            dashed = " [style=dashed]" if (node, cited) in part.chains else ""
-            yield f'  "{labels[node]}" -> "{labels[cited]}"{dashed};'
-        if not part.arrows[node] and node not in cited_at_all:
-            yield f'  "{labels[node]}";'
-    yield "}"
-
-
-def graphml(part: Part, downwards: bool) -> Iterable[str]:
-    """The lines of the form `graphml`. Labels have no sign that means something in XML."""
-    graph, labels = part.graph, part.graph.labels
-    yield '<?xml version="1.0" encoding="UTF-8"?>'
-    yield '<graphml xmlns="http://graphml.graphdrawing.org/xmlns">'
-    yield '<key id="kind" for="node" attr.name="kind" attr.type="string"/>'
-    yield '<graph edgedefault="directed">'
-    shown_axioms: set[int] = set()
-    for node in part.theorems(downwards):
-        yield f'<node id="{labels[node]}"><data key="kind">theorem</data></node>'
-        for cited in part.arrows[node]:
-            if not graph.is_theorem(cited) and cited not in shown_axioms:
-                shown_axioms.add(cited)
-                yield f'<node id="{labels[cited]}"><data key="kind">axiom</data></node>'
-            yield f'<edge source="{labels[node]}" target="{labels[cited]}"/>'
-    yield "</graph>"
-    yield "</graphml>"
 
 
 def configure_picture(parser: Parser) -> None:

@@ -20,7 +20,13 @@ from query.git.repository import Repository, repository_with
 from query.platform import progress, secret
 from query.program import mmdepend
 from query.program.source import is_of_git
-from query.reports.revisions import Figures, Question, contents_of, figures_of
+from query.reports.revisions import (
+    Figures,
+    Question,
+    contents_before,
+    contents_of,
+    figures_of,
+)
 from query.reports.trails import Trail
 
 PAGE = """
@@ -43,14 +49,18 @@ before. Where a row has no fault, one has ended.
 
 With --of T, what became of the statement T, an axiom or a theorem: only the revisions that changed
 it, those at which it came to rest on an axiom or no longer does, and those at which a fault began
-or ended. So no AXIOM has to be named to find since when, and by whom, T rests on one.
+or ended. So no AXIOM has to be named to find since when, and by whom, T rests on one. The first
+revision of the range is compared with the one before it. That has no row; standard error says where
+it is faulty, or lacks the file.
 
 rev, date, fault, author, subject   the same
-theorem  its label there
-change   there:   the first revision of the range has it already
+theorem  its label there; none where there is a fault, since nothing is known of that revision
+change   there:   it is there already, and nothing is known of before: this is the first revision
+                  of the file, or in all that was looked at before the file is faulty or missing
          new:     it came with this revision
-         changed: it says something else now
-         renamed: it has another label now
+         changed: its label says something else now
+         renamed: it has another label now. If that was another statement's in the revision before,
+                  a second row says `changed` of it
          proof:   it says the same, and its proof is another one
          below:   its proof is the same, but it rests on other axioms than before, by another proof
                   of something that it rests on
@@ -65,11 +75,12 @@ changed, or a fault began or ended, or the statement or its label changed, and t
 
 axiom    which AXIOM; none in a row about the statement
 rests    whether the theorem rests on the axiom; none where there is no theorem T
-So the last row of an axiom says since which revision it is as it is. Behind a fault the answer is
-told anew, whether or not it is that before it.
+So the last row of an axiom says since which revision it is as it is, unless that is the first one.
+Behind a fault the answer is told anew, whether or not it is that before it.
 
 T is followed where it was renamed, as `compare` finds it: the same statement is there under another
-label. T is the label that it has in the newest revision that has one.
+label. Where none is, the label is followed, whatever it says. T is the label that it has in the
+newest revision that has one.
 
 REV..REV are the revisions of the second REV that aren't in the first, as in git; REV alone is all
 of them. Of a merge the first parent is followed: a merge into the branch is one change, by whatever
@@ -91,7 +102,6 @@ OF_STATEMENT = ("change", "was", *BOTH, *OF_CHANGE)
 COLUMNS_OF = ("rev", "date", "theorem", *OF_AXIOMS, "fault", "author", "subject", *OF_STATEMENT)
 
 CHANGED, RENAMED, BELOW = "changed", "renamed", "below"
-AN_AXIOM = ("it is a theorem now, and was an axiom", "it is an axiom now, and was a theorem")
 
 Row = tuple[Value, ...]
 Known = Sequence[tuple[Revision, Figures]]
@@ -110,6 +120,27 @@ class Turn(NamedTuple):
 
 
 NO_TURN = Turn()
+
+
+class Course(NamedTuple):
+    """The revisions of a range with what each says, and what the file said before the first one:
+    None where there is nothing before, or nobody asked. Each is compared with those before it."""
+
+    known: Known
+    before: Figures | None = None
+
+    def sound(self) -> list[Figures]:
+        """What is known, without what is faulty; first what was before the range."""
+        told = [*([] if self.before is None else [self.before]), *(each for _, each in self.known)]
+        return [each for each in told if each.fault is None]
+
+    def fault_turns(self) -> list[bool]:
+        """For each revision whether a fault began or ended there. The first one has its turn with
+        a fault that was there before, too: in a range that is faulty as a whole, it is told."""
+        found = [*fault_turns(self.known)]
+        if found and self.before is not None and self.before.fault is not None:
+            found[0] = True
+        return found
 
 
 def configure(parser: Parser) -> None:
@@ -140,32 +171,36 @@ def run(context: Context, arguments: argparse.Namespace) -> int:
         found = revisions(objects, within, path)
         if not found:
             context.tell(nothing_in(objects, within, path))
-        known = list(zip(found, figures_in(objects, found, question), strict=True))
-    see_labels(known, question, f"{within.word} of {shown(word)}")
+        course = course_of(objects, within, found, question)
+    name = f"{within.word} of {shown(word)}"
+    see_labels(course, question, name)
     if repository.is_shallow():
         context.tell("the clone is shallow, so there may be revisions before the first one")
     if arguments.of is not None:
-        put_life(context, known, axioms)
+        put_life(context, course, question, name)
         return 0
-    shown_ones = known
+    shown_ones = known = course.known
     if arguments.faults:
         shown_ones = [pair for pair, is_turn in zip(known, fault_turns(known)) if is_turn]
         if found and not shown_ones:
-            context.tell(f"no revision of {within.word} of {shown(word)} has a fault")
+            context.tell(f"no revision of {name} has a fault")
     aside = [] if axioms else ["axiom", "rest"]
     context.out.table(COLUMNS, counts(shown_ones, axioms), aside)
     return 0
 
 
-def figures_in(
-    objects: Objects, found: Sequence[Revision], question: Question
-) -> Sequence[Figures]:
-    """What each revision says, in their order."""
+def course_of(
+    objects: Objects, within: Range, found: Sequence[Revision], question: Question
+) -> Course:
+    """What each revision of a range says, in their order; of one assertion also what was before."""
     contents = contents_of(objects, found)
     if question.label is None:
-        return [*figures_of(objects, contents, question)]
+        return Course(list(zip(found, figures_of(objects, contents, question), strict=True)))
+    before = contents_before(objects, within, found)
     renames = Renames(question.options, question.uses_cache)
-    return Trail(objects, contents, question, renames.label_in).followed()
+    figures = Trail(objects, [*before, *contents], question, renames.label_in).followed()
+    known = list(zip(found, figures[len(before) :], strict=True))
+    return Course(known, figures[0] if before else None)
 
 
 def range_in(arguments: argparse.Namespace, repository: Repository) -> Range:
@@ -179,11 +214,12 @@ def range_in(arguments: argparse.Namespace, repository: Repository) -> Range:
         raise NoAnswer(f"{why.sentence()}; REV..REV comes before the AXIOM") from None
 
 
-def see_labels(known: Known, question: Question, name: str) -> None:
-    """NoAnswer where no revision has an axiom, or the theorem, that is asked for."""
-    sound = [each for _, each in known if each.fault is None]
-    if not sound:
+def see_labels(course: Course, question: Question, name: str) -> None:
+    """NoAnswer where no revision has an axiom, or the theorem, that is asked for. One that went
+    with the first revision was there before."""
+    if all(each.fault is not None for _, each in course.known):
         return
+    sound = course.sound()
     for axiom in question.axioms:
         if all(each.count(axiom) is None for each in sound):
             raise NoAnswer(f"no revision in {name} has an axiom '{shown(axiom)}'")
@@ -219,11 +255,16 @@ def counts(known: Known, axioms: Sequence[str]) -> Iterator[Row]:
             yield revision.commit, revision.date, each.theorems, axiom, rest, *said
 
 
-def put_life(context: Context, known: Known, axioms: Sequence[str]) -> None:
-    """Answers what became of a statement, or since when it rests on axioms."""
-    most = most_of(context.out.format)
-    rows = [*(answers(known, axioms, most) if axioms else life(known, most))]
+def put_life(context: Context, course: Course, question: Question, name: str) -> None:
+    """Answers what became of a statement, or since when it rests on axioms. What was before the
+    range has no row, so standard error says where that is faulty, or where no row is left."""
+    most, axioms = most_of(context.out.format), question.axioms
+    rows = [*(answers(course, axioms, most) if axioms else life(course, most))]
     aside = (*BOTH, *OF_CHANGE) if axioms else (*OF_AXIOMS, *BOTH)
+    if course.before is not None and course.before.fault is not None:
+        context.tell(f"before {name} nothing is known: {course.before.fault}")
+    if course.known and not rows:
+        context.tell(f"no revision of {name} changed '{shown(str(question.label))}'")
     context.out.table(COLUMNS_OF, rows, aside)
     if context.out.format == "text":
         changed = [row for row in rows if row[COLUMNS_OF.index("change")] == "changed"]
@@ -235,28 +276,31 @@ def put_life(context: Context, known: Known, axioms: Sequence[str]) -> None:
 
 
 def turn(pair: tuple[Revision, Figures], axiom: Value, rests: Value, change: Turn) -> Row:
-    """A row about one assertion."""
+    """A row about one assertion. Which label it has isn't known where there is a fault."""
     revision, each = pair
     said = (each.fault, revision.author, revision.subject)
-    return (revision.commit, revision.date, each.label, axiom, rests, *said, *change)
+    label = each.label if each.fault is None else None
+    return (revision.commit, revision.date, label, axiom, rests, *said, *change)
 
 
-def life(known: Known, most: int) -> Iterator[Row]:
+def life(course: Course, most: int) -> Iterator[Row]:
     """The revisions that changed a statement, or at which a fault began or ended."""
-    for pair, change, is_turn in zip(known, turns(known, most), fault_turns(known)):
-        if is_turn or change.change is not None:
-            yield turn(pair, None, None, change)
+    for pair, changes, is_turn in zip(course.known, turns(course, most), course.fault_turns()):
+        for change in changes:
+            if is_turn or change.change is not None:
+                yield turn(pair, None, None, change)
 
 
-def answers(known: Known, axioms: Sequence[str], most: int) -> Iterator[Row]:
+def answers(course: Course, axioms: Sequence[str], most: int) -> Iterator[Row]:
     """For each revision the axioms of which it is another answer than before whether the theorem
     rests on them, or all where a fault began or ended; and before these whether the statement or
     its label changed."""
     last: dict[str, bool | None] = {}
-    for pair, change, is_turn in zip(known, turns(known, most), fault_turns(known)):
+    for pair, changes, is_turn in zip(course.known, turns(course, most), course.fault_turns()):
         each = pair[1]
-        if change.change in (CHANGED, RENAMED):
-            yield turn(pair, None, None, change)
+        for change in changes:
+            if change.change in (CHANGED, RENAMED):
+                yield turn(pair, None, None, change)
         for axiom in axioms:
             rests = each.rests(axiom)
             is_same = each.fault is not None or (axiom in last and last[axiom] == rests)
@@ -266,16 +310,24 @@ def answers(known: Known, axioms: Sequence[str], most: int) -> Iterator[Row]:
                 yield turn(pair, axiom, rests, NO_TURN)
 
 
-def turns(known: Known, most: int) -> Iterator[Turn]:
-    """For each revision what it did to the statement. It is compared with the last one before that
-    is sound."""
-    last: Figures | None = None
-    for _, each in known:
+def turns(course: Course, most: int) -> Iterator[list[Turn]]:
+    """For each revision what it did to the statement, and then what to its label, where that was
+    another statement's. It is compared with the last one before that is sound."""
+    before = course.before
+    last = None if before is None or before.fault is not None else before
+    for _, each in course.known:
         if each.fault is not None:
-            yield NO_TURN
+            yield [NO_TURN]
             continue
-        yield turn_of(last, each, most)
+        yield [turn_of(last, each, most), *turn_of_label(each, most)]
         last = each
+
+
+def turn_of_label(now: Figures, most: int) -> Iterator[Turn]:
+    """That the label says something else now, where the statement had another label before."""
+    old, new = now.replaced, now.assertion
+    if old is not None and new is not None and (words := difference_in_words(old, new)):
+        yield Turn(CHANGED, None, *change_of(old, new, words, most)[1:4])
 
 
 def turn_of(before: Figures | None, now: Figures, most: int) -> Turn:
@@ -301,8 +353,7 @@ def statement_turn(before: Figures | None, now: Figures, most: int) -> Turn:
         return Turn("there")
     if old is None:
         return Turn("new")
-    words = AN_AXIOM[new.kind == "a"] if old.kind != new.kind else difference_in_words(old, new)
-    if words:
+    if words := difference_in_words(old, new):
         was = None if old.label == new.label else old.label
         return Turn(CHANGED, was, *change_of(old, new, words, most)[1:4])
     if old.label != new.label:

@@ -2,18 +2,27 @@
 
 import argparse
 import re
-from collections.abc import Callable, Iterable, Iterator, Sequence
+from collections.abc import Callable, Iterable, Iterator, Mapping, Sequence
 from dataclasses import dataclass, field
+from typing import NamedTuple
 
 from query.answers.output import Value
 from query.arguments.context import Context
-from query.arguments.options import Parser, add_choice_of_axioms, add_database
+from query.arguments.options import Parser, add_choice_of_axioms, add_database, options_of
 from query.commands import TABLE_FORMATS, Command
-from query.commands.compare import Telling, compared, hows_of, the_same_theorems, why_empty
+from query.commands.compare import (
+    Telling,
+    axioms_of,
+    compared,
+    hows_of,
+    the_same_theorems,
+    why_empty,
+)
 from query.comparisons.causes import Causes
 from query.comparisons.changed_statements import (
     COLUMNS as BOTH,
     Change,
+    arrival_of,
     changes as both_statements,
     in_words,
     lines_of,
@@ -21,51 +30,65 @@ from query.comparisons.changed_statements import (
 )
 from query.comparisons.changes import Comparison
 from query.comparisons.kept_order import longest_rising
+from query.comparisons.new_labels import ANOTHER, BY_NEW_LABELS, Proofs
 from query.gate.new_definitions import introduced
+from query.texts.assertions import Assertion
 from query.texts.text import Text
 
 COLUMNS = ("theorem", "status", "was", "axioms", "gained", "lost", "via", "bytes", *BOTH)
 SHOWN_ROWS = 60
 """Rows of a comment's table, and axioms of a line. A longer one isn't read."""
+SHOWN_NEW = 10
+"""New theorems that are named with an axiom."""
 SHOWN_LABEL = 200
 """How many characters of a label, or of a side of a definition, a comment shows."""
 BACKTICKS = re.compile("`+")
 
 PAGE = """
 Lists the theorems that a change from OLD to NEW is about, in file order, and last those that are
-gone.
+gone. One that is an axiom now, and says something else, stands before these.
 
 theorem  its label in NEW; of one that is gone, in OLD
-status   new:     only NEW has it
-         gone:    only OLD has it
+status   new:     only NEW has the label, and it isn't renamed
+         gone:    only OLD has the label, and its statement isn't renamed
          renamed: it had another label
-         changed: the same label, another statement. Such a theorem neither gains nor loses an
-                  axiom, unless only the order of its `$f` is other or the names of its variables
-                  are
+         changed: both have the label, with another statement; it may be renamed too, and so may
+                  what the label said before. Such a theorem neither gains nor loses an axiom,
+                  unless it is renamed, or only the order of its `$f` is other or the names of its
+                  variables are
          moved:   it stands before or behind others than it did
-         proof:   it has another proof; one theorem may have several of these words
+         proof:   it has another proof; one theorem may have several of these words. A proof is
+                  the same one where only labels of what was renamed are other in it
 was      of a renamed one the label in OLD
 axioms   of a new or changed one, on how many axioms it rests
-gained   the axioms on which it came to rest
+gained   the axioms on which it came to rest; of a new one those on which it rests and that OLD
+         hasn't
 lost     the axioms on which it no longer rests
 via      for each axiom gained, by what: of the first new citation on a shortest chain to the axiom
          what the theorem cites, or, where another theorem has that citation, which one
-bytes    how much longer its text is, from the label to the end; of a new one how long
+bytes    how much longer its text is, from the label to the end, than it was under the label `was`
+         or else under its own; of a new one how long
 differ   of a changed one in what its statements differ, in words
-old, new both statements of a changed one, as `compare` tells them
+old, new both statements of a changed one, as `compare` tells them; of a new one what it says, with
+         its hypotheses and the pairs of distinct variables, or their number where that is long
 how      what the new one is beside the old one, as `compare` tells it
 
-As text the edits that let axioms in stand first: which proof newly cites what, how many theorems of
-both came to rest on each axiom by that, and how many fewer would without the new citations of that
-proof. Where a theorem became an axiom, that is the edit. Each theorem is counted with one edit, the
-first on a shortest chain to the axiom; by another edit it may rest on the axiom all the same.
+As text it says first on which axioms that OLD hasn't new theorems rest, and which ones. Then come
+the edits that let axioms in: which proof newly cites what, how many theorems of both came to rest
+on each axiom by that, and how many fewer would without the new citations of that proof. Where a
+theorem became an axiom, that is the edit. Each theorem is counted with one edit, the first on a
+shortest chain to the axiom; by another edit it may rest on the axiom all the same. What new
+theorems say, and both statements of changed ones, stand below the table.
 
 The table has only what this change touches itself: `compare` lists all theorems that came to rest
-on an axiom. Standard error says which axioms of any typecode are new, changed, renamed and gone,
-and of each new or changed definition what it defines, or why it isn't sound. With --format markdown
-it is a comment for the pull request, which says first which axioms these are, then at most 60 edits
-that let axioms in, then what new and changed definitions define, and then has at most 60 theorems,
-and both statements of at most 60 that were changed, axioms included.
+on an axiom. Theorems with the same proof by new labels, those of what was renamed, are only counted
+on standard error or in the comment, unless something else became of them. Standard error also says
+which axioms of any typecode are new, changed, renamed and gone, and of each new or changed
+definition what it defines, or why it isn't sound. With --format markdown it is a comment for the
+pull request, which says first which axioms these are, then on which of them new theorems rest, and
+then has at most 60 edits that let axioms in, what new and changed definitions define, at most 60
+theorems, both statements of at most 60 that were changed, and what at most 60 new ones say, in both
+axioms included.
 
   $ mmquery review v1:set.mm set.mm
   $ mmquery review v1:set.mm set.mm --format markdown
@@ -76,6 +99,8 @@ STATUSES = {
     "proof": "with another proof",
 }
 """How a comment calls each status."""
+NEW_LABELS = "with the same proof by new labels"
+"""How a comment calls theorems in whose proofs only labels of what was renamed are other."""
 
 
 @dataclass
@@ -99,6 +124,14 @@ class Outcome:
         return [self.label, self.status, self.was, self.axioms, *lists, self.bytes, *both]
 
 
+class Review(NamedTuple):
+    """What became of each theorem that the change is about, and the labels of all theorems in whose
+    proofs only labels of what was renamed are other."""
+
+    changes: Sequence[Outcome]
+    by_new_labels: Sequence[str]
+
+
 def configure(parser: Parser) -> None:
     """Adds the words and options."""
     add_database(parser, "OLD")
@@ -108,25 +141,30 @@ def configure(parser: Parser) -> None:
 
 def run(context: Context, arguments: argparse.Namespace) -> int:
     """Answers."""
-    comparison = compared(context, arguments)
+    comparison = compared(context, arguments, options_of(arguments))
     causes = Causes(comparison)
     telling = Telling(most_of(context.out.format), hows_of(comparison))
-    changes = changes_of(comparison, telling, causes)
+    review = review_of(comparison, telling, causes)
+    changes = review.changes
     empty = why_empty(
         arguments, comparison, "have the same theorems, with the same proofs, in one order"
     )
     if context.out.format == "markdown":
-        context.out.text(comment(comparison, changes, causes, telling))
+        context.out.text(comment(comparison, review, causes, telling))
         return 0
     counts = axioms_in_words(comparison, cut)
     counts += "".join(f"; {each}" for each in definitions_in_words(comparison, cut))
     if counts and changes:
         context.tell(f"axioms: {counts}")
     told = f"; axioms: {counts}" if counts else ""
-    remarks = the_same_theorems(comparison.theorems, comparison.axioms)
+    remarks: dict[str, Sequence[str]] = {
+        "of {} the proof is the same by new labels, such as {}": review.by_new_labels,
+        **the_same_theorems(comparison.theorems, comparison.axioms),
+    }
     rows = [each.row() for each in changes]
-    if context.out.format == "text" and causes.found:
-        context.out.text("".join(f"{each}\n" for each in (*causes_in_words(causes, cut), "")))
+    if context.out.format == "text":
+        first = [*new_in_words(comparison, changes, cut), *causes_in_words(causes, cut)]
+        context.out.text("".join(f"{each}\n" for each in (*first, "") if first))
     context.table(COLUMNS, rows, empty + told, aside=BOTH, remarks=remarks)
     if context.out.format == "text":
         for line in lines_of(each.change for each in changes if each.change is not None):
@@ -146,19 +184,34 @@ def changed_axioms(comparison: Comparison) -> dict[str, list[str]]:
     }
 
 
-def changes_of(comparison: Comparison, telling: Telling, causes: Causes) -> list[Outcome]:
+def review_of(comparison: Comparison, telling: Telling, causes: Causes) -> Review:
     """What became of each theorem that the change is about. What let axioms in is added to
     `causes`."""
+    found, by_new_labels = touched_by(comparison)
+    for label in (*comparison.theorems.new, *comparison.restated):
+        found[label].axioms = number_of_axioms(comparison, label)
+    for label in comparison.theorems.new:
+        found[label].change = arrival_of(comparison.text.by_label[label], telling.most)
+    for each in both_statements(comparison, "theorem", telling.most, telling.hows):
+        found[each.label].change = each
+    add_shifts(comparison, found, causes)
+    add_new_axioms(comparison, found)
+    old, went = comparison.old_text, comparison.theorems.gone
+    gone = [Outcome(label, ["gone"], bytes=-length(old, label)) for label in went]
+    return Review([*found.values(), *axioms_now(comparison, telling), *gone], by_new_labels)
+
+
+def touched_by(comparison: Comparison) -> tuple[dict[str, Outcome], list[str]]:
+    """The theorems of NEW that the change is about, each with its words, and the labels of those in
+    whose proofs only labels of what was renamed are other."""
     old, new = comparison.old_text, comparison.text
     pairing = comparison.theorems
     fresh = set(pairing.new)
-    origin = {
-        one.label: before
-        for one in new.assertions
-        if one.kind == "p" and (before := old.find(comparison.to_old.get(one.label, "")))
-        if before.kind == "p"
-    }
+    origin = origins(old, new, comparison.to_old)
     moved = out_of_order((label, before.number) for label, before in origin.items())
+    for label in pairing.changed:
+        origin.setdefault(label, old.by_label[label])
+    proofs, by_new_labels = Proofs(comparison), []
     found: dict[str, Outcome] = {}
     for one in filter(lambda one: one.kind == "p", new.assertions):
         change = Outcome(one.label, bytes=one.end - one.place)
@@ -169,23 +222,38 @@ def changes_of(comparison: Comparison, telling: Telling, causes: Causes) -> list
             change.bytes -= before.end - before.place
             if one.label in pairing.renamed:
                 change.was = before.label
+            proof = proofs.change(before, one)
+            by_new_labels += [one.label] if proof == BY_NEW_LABELS else []
             for word, is_so in (
                 ("renamed", change.was is not None),
                 ("changed", one.label in pairing.changed),
                 ("moved", one.label in moved),
-                ("proof", old.proof(before) != new.proof(one)),
+                ("proof", before.kind == "p" and proof == ANOTHER),
             ):
                 if is_so:
                     change.status.append(word)
         if change.status:
             found[one.label] = change
-    for label in (*fresh, *comparison.restated):
-        found[label].axioms = number_of_axioms(comparison, label)
-    for each in both_statements(comparison, "theorem", telling.most, telling.hows):
-        found[each.label].change = each
-    add_shifts(comparison, found, causes)
-    gone = [Outcome(label, ["gone"], bytes=-length(old, label)) for label in pairing.gone]
-    return [*found.values(), *gone]
+    return found, by_new_labels
+
+
+def origins(old: Text, new: Text, to_old: Mapping[str, str]) -> dict[str, Assertion]:
+    """For each theorem what it was in OLD, if that was a theorem."""
+    return {
+        one.label: before
+        for one in new.assertions
+        if one.kind == "p" and (before := old.find(to_old.get(one.label, "")))
+        if before.kind == "p"
+    }
+
+
+def axioms_now(comparison: Comparison, telling: Telling) -> Iterator[Outcome]:
+    """The theorems that are axioms now, and say something else."""
+    old, new = comparison.old_text, comparison.text
+    for each in both_statements(comparison, "axiom", telling.most, telling.hows):
+        if old.by_label[each.label].kind == "p":
+            longer = length(new, each.label) - length(old, each.label)
+            yield Outcome(each.label, ["changed"], bytes=longer, change=each)
 
 
 def number_of_axioms(comparison: Comparison, label: str) -> int | None:
@@ -218,6 +286,23 @@ def add_shifts(comparison: Comparison, found: dict[str, Outcome], causes: Causes
                 change.lost.append(axiom)
 
 
+def add_new_axioms(comparison: Comparison, found: Mapping[str, Outcome]) -> None:
+    """Adds to new theorems the axioms on which they rest and that OLD hasn't, and by what."""
+    dependence = comparison.new.dependence
+    rows = {dependence.rows.get(label) for label in comparison.theorems.new}
+    lacking = [axiom for was, axiom in axioms_of(comparison) if was is None and axiom is not None]
+    for axiom in lacking if rows else ():
+        users = dependence.users(dependence.columns[axiom])
+        resting = [row for row in users if row in rows]
+        if resting:
+            graph = dependence.graph
+            far = graph.distances(graph.node(axiom), users)
+            for row in resting:
+                outcome = found[dependence.theorems[row]]
+                outcome.gained.append(axiom)
+                outcome.via.append(graph.labels[graph.following(row, far)])
+
+
 def old_axioms(comparison: Comparison) -> list[str]:
     """The axioms of OLD that are chosen, in its order."""
     told = comparison.old_text.assertions
@@ -232,21 +317,27 @@ def out_of_order(numbered: Iterable[tuple[str, int]]) -> set[str]:
     return {label for place, (label, _) in enumerate(pairs) if place not in stayed}
 
 
-def comment(
-    comparison: Comparison, changes: Sequence[Outcome], causes: Causes, telling: Telling
-) -> str:
+def counts_in_words(review: Review) -> str:
+    """With how many theorems the change did what."""
+    counts = {
+        words: sum(word in each.status for each in review.changes)
+        for word, words in STATUSES.items()
+    }
+    counts[NEW_LABELS] = len(review.by_new_labels)
+    return ", ".join(f"{count} {words}" for words, count in counts.items() if count)
+
+
+def comment(comparison: Comparison, review: Review, causes: Causes, telling: Telling) -> str:
     """The comment for a pull request. What comes from a database stands as code, in which nothing
     is a link or a mention, and labels have no sign that would end it."""
-    counts = {word: sum(word in each.status for each in changes) for word in STATUSES}
-    parts = [f"{count} {STATUSES[word]}" for word, count in counts.items() if count]
+    changes = review.changes
     lines = [f"**Axioms**: {axioms_in_words(comparison, code) or 'no change'}.", ""]
-    if causes.found:
-        edits = [f"- {each}." for each in causes_in_words(causes, code)]
-        left = [f"- {len(edits) - SHOWN_ROWS} more edits."] if len(edits) > SHOWN_ROWS else []
-        lines += ["**Edits that let axioms in**:", "", *edits[:SHOWN_ROWS], *left, ""]
+    fresh = new_in_words(comparison, changes, code)
+    lines += section("New theorems on new axioms", fresh, "axioms")
+    lines += section("Edits that let axioms in", causes_in_words(causes, code), "edits")
     if definitions := definitions_in_words(comparison, code):
         lines += ["**Definitions**:", "", *(f"- {each}" for each in definitions), ""]
-    lines += [f"**Theorems**: {', '.join(parts) if parts else 'no change'}."]
+    lines += [f"**Theorems**: {counts_in_words(review) or 'no change'}."]
     gained = {axiom: len(comparison.gained(axiom)) for axiom in comparison.new.dependence.axioms}
     lost = {axiom: len(comparison.lost(axiom)) for axiom in old_axioms(comparison)}
     for words, counts in (("came to rest on", gained), ("no longer rest on", lost)):
@@ -257,27 +348,45 @@ def comment(
         lines += ["", "| theorem | status | axioms | gained | lost | bytes |"]
         lines += ["|---|---|---|---|---|---|"]
         lines += [table_line(each) for each in changes[:SHOWN_ROWS]]
-    if len(changes) > SHOWN_ROWS:
-        more = f"{len(changes) - SHOWN_ROWS} more aren't shown"
-        lines += ["", f"{more}; `mmquery review` lists them."]
+    lines += more_lines(changes, "`mmquery review` lists them")
     lines += statement_lines(comparison, changes, telling)
     return "\n".join(lines) + "\n"
+
+
+def section(title: str, told: Iterable[str], what: str) -> list[str]:
+    """A heading, what is told under it, and how many more there are of that than are shown; nothing
+    where nothing is told."""
+    items = [f"- {each}." for each in told]
+    left = [f"- {len(items) - SHOWN_ROWS} more {what}."] if len(items) > SHOWN_ROWS else []
+    return [f"**{title}**:", "", *items[:SHOWN_ROWS], *left, ""] if items else []
 
 
 def statement_lines(
     comparison: Comparison, changes: Sequence[Outcome], telling: Telling
 ) -> list[str]:
-    """Both statements of what was changed, first of axioms, and then of theorems."""
-    axioms = both_statements(comparison, "axiom", telling.most, telling.hows)
-    changed = [*axioms, *(each.change for each in changes if each.change is not None)]
+    """Both statements of what was changed, and then what is new, each first of axioms, and then of
+    theorems."""
+    axioms = [*both_statements(comparison, "axiom", telling.most, telling.hows)]
+    told = {each.label for each in axioms}
+    news = (comparison.text.by_label[label] for label in comparison.axioms.new)
+    axioms += [arrival_of(one, telling.most) for one in news]
+    theorems = (each.change for each in changes if each.label not in told)
+    every = [*axioms, *(each for each in theorems if each is not None)]
+    changed, fresh = ([e for e in every if (e.old is None) == is_new] for is_new in (False, True))
     lines = ["", "**Changed statements**:", ""] if changed else []
     for each in changed[:SHOWN_ROWS]:
         lines += [f"- {code(each.label)}: {in_words(each)}"]
-        lines += [f"  - was {fenced(each.old)}", f"  - is {fenced(each.new)}"]
-    if len(changed) > SHOWN_ROWS:
-        more = f"{len(changed) - SHOWN_ROWS} more aren't shown"
-        lines += ["", f"{more}; `mmquery compare` lists them."]
-    return lines
+        lines += [f"  - was {fenced(each.old or '')}", f"  - is {fenced(each.new)}"]
+    lines += more_lines(changed, "`mmquery compare` lists them")
+    lines += ["", "**New statements**:", ""] if fresh else []
+    lines += [f"- {code(each.label)}: {fenced(each.new)}" for each in fresh[:SHOWN_ROWS]]
+    return lines + more_lines(fresh, "`mmquery review` lists the theorems")
+
+
+def more_lines(some: Sequence[object], where: str) -> list[str]:
+    """How many more there are than are shown, and where they are listed."""
+    more = f"{len(some) - SHOWN_ROWS} more aren't shown; {where}."
+    return ["", more] if len(some) > SHOWN_ROWS else []
 
 
 def axioms_in_words(comparison: Comparison, shown: Callable[[str], str]) -> str:
@@ -293,14 +402,33 @@ def axioms_in_words(comparison: Comparison, shown: Callable[[str], str]) -> str:
 
 def causes_in_words(causes: Causes, shown: Callable[[str], str]) -> Iterator[str]:
     """Each edit that let an axiom in, and then how many theorems followed, and how many fewer would
-    without the new citations of that proof. `shown` says how a label is."""
+    without the new citations of that proof; once where it is the same for all axioms. `shown` says
+    how a label is."""
     for each in causes.in_order():
-        counts = [f"{shown(axiom)} ({each.count_in_words(axiom)})" for axiom in each.axioms]
+        if each.is_alike():
+            axioms = listed([shown(axiom) for axiom in each.axioms])
+            counts = f"{axioms} ({each.count_in_words(next(iter(each.axioms)), ' each')})"
+        else:
+            counts = listed([f"{shown(one)} ({each.count_in_words(one)})" for one in each.axioms])
         if each.citing is None:
             edit = f"{shown(each.cited)} is new among the axioms"
         else:
             edit = f"{shown(each.citing)} newly cites {shown(each.cited)}"
-        yield f"{edit}, by which theorems came to rest on {listed(counts)}"
+        yield f"{edit}, by which theorems came to rest on {counts}"
+
+
+def new_in_words(
+    comparison: Comparison, changes: Sequence[Outcome], shown: Callable[[str], str]
+) -> Iterator[str]:
+    """Each axiom that OLD hasn't and on which new theorems rest, with these. `shown` says how a
+    label is."""
+    resting: dict[str, list[str]] = {}
+    for each in changes:
+        for axiom in each.gained if "new" in each.status else ():
+            resting.setdefault(axiom, []).append(shown(each.label))
+    for axiom in filter(resting.__contains__, comparison.new.dependence.axioms):
+        named = listed(resting[axiom], SHOWN_NEW)
+        yield f"{shown(axiom)} is new among the axioms, and new theorems rest on it: {named}"
 
 
 def definitions_in_words(comparison: Comparison, shown: Callable[[str], str]) -> list[str]:
@@ -322,10 +450,10 @@ def cut(text: str) -> str:
     return text if len(text) <= SHOWN_LABEL else text[:SHOWN_LABEL] + ".."
 
 
-def listed(words: Sequence[str]) -> str:
+def listed(words: Sequence[str], most: int = SHOWN_ROWS) -> str:
     """Words with commas between, and how many more there are than are shown."""
-    more = f" and {len(words) - SHOWN_ROWS} more" if len(words) > SHOWN_ROWS else ""
-    return ", ".join(words[:SHOWN_ROWS]) + more
+    more = f" and {len(words) - most} more" if len(words) > most else ""
+    return ", ".join(words[:most]) + more
 
 
 def code(text: str) -> str:
@@ -344,7 +472,8 @@ def table_line(change: Outcome) -> str:
     """A line of the comment's table."""
     pairs = zip(change.gained, change.via, strict=True)
     gained = [f"{code(axiom)} via {code(via)}" for axiom, via in pairs]
-    status = ", ".join(change.status) + (f" from {code(change.was)}" if change.was else "")
+    was = {"renamed": f" from {code(change.was)}"} if change.was else {}
+    status = ", ".join(word + was.get(word, "") for word in change.status)
     axioms = "" if change.axioms is None else str(change.axioms)
     lost = listed([code(axiom) for axiom in change.lost])
     fields = (code(change.label), status, axioms, listed(gained), lost)

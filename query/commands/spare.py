@@ -1,12 +1,23 @@
 """`spare`: theorems that can do without axioms, with the proofs that do."""
 
 import argparse
+from collections.abc import Collection, Sequence
+from dataclasses import dataclass, replace
 
 from query.answers.errors import NEAR_LABEL, NoAnswer, nearest, shown
 from query.answers.output import Value
 from query.arguments.context import Context
-from query.arguments.options import Parser, add_database, add_only, add_open, positive
+from query.arguments.label_files import labels_like
+from query.arguments.options import (
+    Parser,
+    add_database,
+    add_only,
+    add_open,
+    between_commas,
+    positive,
+)
 from query.commands import Command
+from query.definitions.foundations import BEGINNING
 from query.platform.files import see_missing, write_new
 from query.reports.choice import Options
 from query.reports.database import Database
@@ -48,9 +59,15 @@ then those that cite it lose the axiom with it, and keep their proofs. So what i
 couldn't be mended there, or isn't to be: it isn't asked about, or it would have to cite what is
 discouraged, or what stands after it, or would rest on another rule of syntax.
 
+--theorem T, which may be given several times, and the filters choose the theorems whose proofs may
+be changed. What others lose by that, which keep their proofs, is told too.
+
 With --may-gain AXIOM, which may be given several times, a theorem may come to rest on that one and
 on any rule of syntax, where no proof is found that gains nothing; and so may all that cite it, also
-such as lose nothing. A definition has to be named as well.
+such as lose nothing. A definition has to be named as well. AXIOM may be several ones with commas
+between, or a pattern in which * is anything, as 'df-*'. --may-gain-of LABEL allows all axioms and
+definitions on which LABEL rests, but for those that are to be lost. Where nothing is found by that
+for a theorem of --theorem, but by a statement that would let it gain more, standard error names it.
 
 With --shorter these are the proofs that get shorter by that, whatever axioms they lose.
 
@@ -84,7 +101,9 @@ theorem to the end.
 
   $ mmquery spare set.mm ax-13 --write new.mm
   $ mmquery spare set.mm ax-10 ax-13 --theorem eujust
+  $ mmquery spare set.mm ax-13 --under 'propositional calculus'
   $ mmquery spare set.mm ax-ac2 --may-gain ax-cc
+  $ mmquery spare set.mm ax-inf2 --may-gain-of axinf2 --theorem zfinf2 --cite-discouraged
 """
 
 
@@ -102,6 +121,12 @@ CONVENTIONS = {
     "--change-discouraged": "change proofs whose modification is discouraged, too",
 }
 """What sets conventions aside."""
+MOST_HINTS = 3
+"""Of so many theorems it is said what would do in their proofs, but lets them gain too much."""
+MOST_CITED, MOST_GAINED = 3, 3
+"""Where more statements would have to be cited it isn't said; so many gained axioms are named."""
+PASSING = " among what passes"
+"""How the filters begin that the end of a sentence tells."""
 GIVEN_UP = (
     "{} proofs were given up, since it takes too long to search them; the first is that of {}"
 )
@@ -113,10 +138,11 @@ def configure(parser: Parser) -> None:
     parser.add_argument("axiom", metavar="AXIOM", nargs="*")
     for name, words in FLAGS.items():
         parser.flag(name, words)
-    parser.values("--theorem", "T", "change only the proof of T")
-    parser.values(
-        "--may-gain", "AXIOM", "theorems may come to rest on AXIOM; may be given several times"
-    )
+    parser.values("--theorem", "T", "change only the proof of T; may be given several times")
+    gain = "theorems may come to rest on AXIOM, in which * is anything; several: by commas"
+    parser.values("--may-gain", "AXIOM", gain)
+    of = "theorems may come to rest on all on which LABEL rests; several: by commas"
+    parser.values("--may-gain-of", "LABEL", of)
     parser.value("--write", "NEW", "the file to make, with the new proofs")
     parser.value("--proof", "T", "print the theorem T with its new proof")
     add_only(parser, "|-")
@@ -126,41 +152,102 @@ def configure(parser: Parser) -> None:
         parser.flag(name, words)
 
 
-def wanted_of(database: Database, arguments: argparse.Namespace) -> Wanted:
+@dataclass(frozen=True, slots=True)
+class Found:
+    """What a search found, which was judged: the changes, and the database with them."""
+
+    changer: Changer
+    changes: list[Change]
+    data: bytes
+
+
+def wanted_of(context: Context, database: Database, arguments: argparse.Namespace) -> Wanted:
     """What is asked for. NoAnswer where a label isn't there, or nothing is asked for."""
     dependence = database.dependence()
     axioms: list[str] = list(dict.fromkeys(arguments.axiom))
-    theorems: list[str] = arguments.theorem
     for label in axioms:
         dependence.see_axiom(label)
-    for label in theorems:
-        dependence.see_theorem(label)
-    gained: list[str] = arguments.may_gain
-    for label in gained:
-        dependence.see_axiom(label)
-        if label in axioms:
-            raise NoAnswer(f"{shown(label)} can't be lost and gained")
+    theorems = theorems_of(context, database, arguments.theorem)
+    gained = gained_of(database, arguments, axioms)
     if axioms and arguments.all:
         raise NoAnswer("an AXIOM and --all exclude one another")
     if arguments.shorter and (axioms or arguments.all or arguments.new_steps):
         raise NoAnswer("--shorter and an AXIOM, --all or --new-steps exclude one another")
-    if not axioms and not arguments.all and not theorems and not arguments.shorter:
+    if not axioms and not arguments.all and not arguments.theorem and not arguments.shorter:
         raise NoAnswer("an AXIOM is wanted, or --theorem T, or --all, or --shorter")
     if not axioms and not arguments.shorter:
         axioms = [each for each in reversed(dependence.axioms) if each not in gained]
     return Wanted(
         typecode=arguments.only,
         axioms=tuple(axioms),
-        theorems=frozenset(theorems) or None,
+        theorems=theorems,
         cites_discouraged=arguments.cite_discouraged,
         cites_old=arguments.cite_old,
         cites_mathboxes=arguments.cite_mathboxes,
         changes_discouraged=arguments.change_discouraged,
         has_new_steps=arguments.new_steps,
-        is_all=not arguments.axiom and not theorems,
+        is_all=not arguments.axiom and not arguments.theorem,
         is_shorter=arguments.shorter,
-        may_gain=frozenset(gained),
+        may_gain=gained,
     )
+
+
+def theorems_of(
+    context: Context, database: Database, named: Collection[str]
+) -> frozenset[str] | None:
+    """The theorems whose proofs may be changed: those of the named ones that pass the filters, or
+    of all; None where none is named and there is no filter. NoAnswer where one isn't there."""
+    dependence = database.dependence()
+    for label in named:
+        dependence.see_theorem(label)
+    if not named and not context.filters.are_given:
+        return None
+    return frozenset(filter(context.test(), named or dependence.theorems))
+
+
+def gained_of(
+    database: Database, arguments: argparse.Namespace, axioms: Collection[str]
+) -> frozenset[str]:
+    """The axioms on which theorems may come to rest, of which none is one of those that are to be
+    lost. NoAnswer where a word names none."""
+    dependence = database.dependence()
+    gained: set[str] = set()
+    for word in between_commas(arguments.may_gain):
+        found = labels_like([word], dependence.axioms, database.name, "axiom")
+        for label in found:
+            dependence.see_axiom(label)
+        if not {*found}.difference(axioms):
+            raise NoAnswer(f"{shown(word)} can't be lost and gained")
+        gained.update(found)
+    for label in between_commas(arguments.may_gain_of):
+        found = axioms_below(database, label)
+        if not {*found}.difference(axioms):
+            raise NoAnswer(f"{database.name}: {shown(label)} rests on no axiom that may be gained")
+        gained.update(found)
+    return frozenset(gained.difference(axioms))
+
+
+def axioms_below(database: Database, label: str) -> list[str]:
+    """The axioms on which an assertion rests; an axiom rests on itself. NoAnswer where there is
+    none of this label."""
+    dependence = database.dependence()
+    database.assertion(label)
+    if label in dependence.columns:
+        return [label]
+    row = dependence.rows.get(label)
+    return [] if row is None else [dependence.axioms[each] for each in dependence.rests(row)]
+
+
+def found_by(database: Database, wanted: Wanted, at_once: int | None, looks_below: bool) -> Found:
+    """What is found, and where it is looked below new proofs, what can be mended there. NoAnswer
+    where it isn't so."""
+    changer = Changer(database, wanted, at_once)
+    changes = list(changer.changes())
+    if looks_below:
+        changes = Roots(changer, changes).settled()
+    data = rewritten(database.text, changes)
+    judge_changes(database, data, changes, changer.gainable)
+    return Found(changer, changes, data)
 
 
 def run(context: Context, arguments: argparse.Namespace) -> int:
@@ -171,50 +258,111 @@ def run(context: Context, arguments: argparse.Namespace) -> int:
     database.see_text()
     if arguments.write is not None:
         see_missing(arguments.write)
-    wanted = wanted_of(database, arguments)
-    nowhere = nothing_to_lose(database, wanted, arguments)
+    wanted = wanted_of(context, database, arguments)
+    nowhere = nothing_to_lose(context, database, wanted, arguments)
     if nowhere:
         context.table(COLUMNS, [], f"{database.name}: {nowhere}", aside=ASIDE)
         if arguments.write is not None:
             write_new(arguments.write, database.text.data)
         return 0
-    changer = Changer(database, wanted, arguments.jobs)
-    changes = list(changer.changes())
-    if not wanted.is_shorter:
-        changes = Roots(changer, changes).settled()
-    data = rewritten(database.text, changes)
-    judge_changes(database, data, changes, changer.gainable)
+    found = found_by(database, wanted, arguments.jobs, not wanted.is_shorter)
+    if arguments.proof is None:
+        empty = "no shorter proof was found"
+        if not wanted.is_shorter:
+            empty = f"no theorem was found that can do without {in_words(arguments.axiom)}"
+        put_rows(context, database, found, empty)
+    for hint in hints(database, wanted, arguments, found.changes):
+        context.tell(hint)
     if arguments.proof is not None:
-        context.out.text(new_statement(database, changes, arguments.proof))
-    else:
-        found_none = "no theorem was found that can do without"
-        empty = "no shorter proof was found" if wanted.is_shorter else found_none
-        given_up = [change.theorem for change in changes if change.is_given_up]
-        remarks = {GIVEN_UP: given_up, UNREAD: changer.rules.unread}
-        rows = rows_of(database, changer.ranked(changes))
-        aside = [name for name in ASIDE if all(row[COLUMNS.index(name)] is None for row in rows)]
-        context.table(COLUMNS, rows, f"{database.name}: {empty}", aside=aside, remarks=remarks)
+        context.out.text(new_statement(database, found.changes, arguments.proof))
     if arguments.write is not None:
-        write_new(arguments.write, data)
+        write_new(arguments.write, found.data)
     return 0
 
 
-def nothing_to_lose(database: Database, wanted: Wanted, arguments: argparse.Namespace) -> str:
-    """That none of the theorems that are asked about rests on an axiom that was named; "" where one
-    does. This is known without the search, which may take long. NoAnswer where a new proof is to be
-    printed, which there can't be."""
+def in_words(axioms: Sequence[str]) -> str:
+    """The axioms that are named, as what a theorem can do without."""
+    if len(axioms) > 1:
+        return "any of the axioms"
+    return shown(axioms[0]) if axioms else "an axiom on which it rests"
+
+
+def put_rows(context: Context, database: Database, found: Found, empty: str) -> None:
+    """Answers with a row for each step that is replaced, and for each theorem that keeps its
+    proof. Where there is none, `empty` says so."""
+    given_up = [change.theorem for change in found.changes if change.is_given_up]
+    remarks = {GIVEN_UP: given_up, UNREAD: found.changer.rules.unread}
+    rows = rows_of(database, found.changer.ranked(found.changes))
+    aside = [name for name in ASIDE if all(row[COLUMNS.index(name)] is None for row in rows)]
+    why = f"{database.name}: {empty}{context.filters.in_words()}"
+    context.table(COLUMNS, rows, why, aside=aside, remarks=remarks)
+
+
+def hints(
+    database: Database,
+    wanted: Wanted,
+    arguments: argparse.Namespace,
+    changes: Collection[Change],
+) -> list[str]:
+    """What would do in the proofs of theorems of `--theorem` that got no new one, and lets them
+    gain more than is allowed. It is searched once more for that, with all allowed."""
+    new = {change.theorem for change in changes if change.proof is not None}
+    left = (wanted.theorems or frozenset()).difference(new)
+    if not arguments.theorem or not arguments.axiom or not wanted.may_gain or not left:
+        return []
+    axioms = database.axioms()
+    every = frozenset(axioms).difference(wanted.axioms)
+    more = replace(wanted, theorems=left, may_gain=every, has_new_steps=False)
+    try:
+        others_found = found_by(database, more, arguments.jobs, False).changes
+    except NoAnswer:  # what isn't so is no hint, and the answer itself was judged
+        return []
+    found: list[str] = []
+    for change in others_found:
+        gains = [each for each in change.gains if each in axioms and each not in wanted.may_gain]
+        gains.sort(key=lambda each: each.startswith(BEGINNING))
+        cited = list(dict.fromkeys(each.new for each in change.replaced))
+        if change.proof is not None and gains and 0 < len(cited) <= MOST_CITED:
+            gained = " ".join(gains[:MOST_GAINED])
+            others = f" ({len(gains) - MOST_GAINED} more)" if len(gains) > MOST_GAINED else ""
+            found.append(
+                f"{database.name}: {shown(', '.join(cited))} would do in the proof of "
+                f"{shown(change.theorem)}, which would gain {shown(gained)}{others}; "
+                f"--may-gain-of {shown(','.join(cited))} allows {them(gains)}"
+            )
+    return found[:MOST_HINTS]
+
+
+def them(several: Collection[str]) -> str:
+    """The word for one or several."""
+    return "it" if len(several) == 1 else "them"
+
+
+def nothing_to_lose(
+    context: Context, database: Database, wanted: Wanted, arguments: argparse.Namespace
+) -> str:
+    """That no theorem passes the filters, or none of those that are asked about rests on an axiom
+    that was named; "" where one does. This is known without the search, which may take long.
+    NoAnswer where a new proof is to be printed, which there can't be."""
     dependence = database.dependence()
     axioms: list[str] = arguments.axiom
     theorems = dependence.theorems if wanted.theorems is None else sorted(wanted.theorems)
+    passing = context.filters.in_words()
+    if not theorems and wanted.theorems is not None:
+        where = f"none of the theorems passes the filters{passing.removeprefix(PASSING)}"
+        if arguments.proof is not None:
+            raise NoAnswer(f"{database.name}: {where}, so none gets a new proof")
+        return where
     if arguments.proof is not None:
         dependence.see_theorem(arguments.proof)
         theorems = [arguments.proof]
     resting = {row for each in axioms for row in dependence.users(dependence.column(each))}
     if not axioms or any(dependence.row(each) in resting for each in theorems):
         return ""
-    who = shown(theorems[0]) if len(theorems) == 1 else "none of the theorems"
-    verb = "doesn't rest" if len(theorems) == 1 else "rests"
-    where = f"{who} {verb} on {shown(axioms[0]) if len(axioms) == 1 else 'any of the axioms'}"
+    is_one = len(theorems) == 1
+    who = shown(theorems[0]) if is_one else f"none of the theorems{passing}"
+    verb = "doesn't rest" if is_one else "rests"
+    where = f"{who} {verb} on {in_words(axioms)}"
     if arguments.proof is not None:
         raise NoAnswer(f"{database.name}: {where}, so it gets no new proof")
     return where
@@ -257,4 +405,4 @@ def new_statement(database: Database, changes: list[Change], label: str) -> str:
     raise NoAnswer(f"{database.name}: no new proof of '{shown(label)}'{meant}")
 
 
-COMMANDS = [Command("spare", PAGE, configure, run)]
+COMMANDS = [Command("spare", PAGE, configure, run, lists=True)]

@@ -99,6 +99,8 @@ theorem. With --proofs, behind all of these how long its proof is, how deep it s
 contributed it and when, in columns as `proofs` has them. With --format=csv it is a table for a
 spreadsheet.
 
+With --theorems the axioms are left out.
+
   $ mmquery order set.mm
   $ mmquery order set.mm --like 2p2e4
   $ mmquery order set.mm --columns ax-reg,ax-ac2 --proofs --format=csv
@@ -315,6 +317,7 @@ def counted_axioms(
 def configure_order(parser: Parser) -> None:
     """The words and options of `order`."""
     add_database(parser)
+    parser.flag("--theorems", "leave out the axioms")
     about = "a column for AXIOM, whether a theorem rests on it; several: by commas, or more options"
     parser.values("--columns", "AXIOM", about)
     parser.flag("--proofs", "columns for the length and depth of proofs, and for contributors")
@@ -332,7 +335,7 @@ def run_order(context: Context, arguments: argparse.Namespace) -> int:
     for row, label in enumerate(dependence.theorems):
         counts[label] = dependence.bits(row).bit_count()
     rows: list[list[Value]] = []
-    for one in text.assertions:
+    for one in filter(lambda one: one.kind == "p" or not arguments.theorems, text.assertions):
         kind = "open" if one.is_open else "axiom" if one.kind == "a" else "theorem"
         line = text.line(one.place)
         count, header = counts.get(one.label), text.chapter_number(one)
@@ -341,6 +344,8 @@ def run_order(context: Context, arguments: argparse.Namespace) -> int:
         others = [] if lengths is None else about_proof(text, one, lengths.get(one.label))
         rows.append([line, kind, one.typecode, count, one.label, header, *marks, *others])
     columns = [*ORDER, *marked, *(OF_PROOFS if arguments.proofs else ())]
+    if arguments.theorems and not rows:
+        context.tell(f"{database.name}: has no theorem")
     context.out.table(columns, context.passing(rows, columns.index("label")))
     return 0
 

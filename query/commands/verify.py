@@ -35,7 +35,7 @@ axioms     how many axioms of every typecode it has
 theorems   how many theorems it has
 line, column, code, statement, meaning, advice   the fault; the column counts bytes from 1
 proved, wanted   the formula that the proof proves and that of the theorem, for the code E38; what
-           stands there and what the hypothesis wants, for E35
+           stands there and what the hypothesis wants, for E35; for E37 that of the theorem alone
 word, declared   the word, and the line on which there is something of this name, for E33; the
            label, and the line on which it was used before, for E15
 step, cited   which step is wrong, and the label that it cites, for E34, E35, E36 and E39; for E45
@@ -44,7 +44,8 @@ hypothesis   the label of the first hypothesis that what stands there doesn't fi
 distinct   the two variables that must be distinct, for E36
 first, second   what stands for each of them
 lacking    the variable that both have, or two that no active $d has
-steps      the last five steps before: number, label and formula, which is cut where it is long
+steps      the last five steps before: number, label and formula, which is cut where it is long;
+           for E37 also the steps of the last five entries of the stack
 missing    all pairs of variables that aren't distinct at this step and those behind it, or the
            variable alone that both sides of a pair have; what to do names the first twenty
 takes      for each hypothesis of the step the number of the step that stands for it, the label of

@@ -33,14 +33,19 @@ class Cause:
     axioms: Counter[str] = field(default_factory=Counter)
     fewer: Counter[str] = field(default_factory=Counter)
 
-    def count_in_words(self, axiom: str) -> str:
+    def is_alike(self) -> bool:
+        """Whether both numbers are the same for all of several axioms."""
+        counts = {(count, self.fewer[axiom]) for axiom, count in self.axioms.items()}
+        return len(self.axioms) > 1 and len(counts) == 1
+
+    def count_in_words(self, axiom: str, each: str = "") -> str:
         """How many theorems came to rest on an axiom, and how many fewer would without the new
-        citations."""
+        citations. `each` is the word for that the axiom is one of several."""
         count, fewer = self.axioms[axiom], self.fewer[axiom]
         if self.citing is None:
-            return f"{count}"
+            return f"{count}{each}"
         would = f"{fewer} fewer" if fewer else "as many"
-        return f"{count} did; without its new citations {would} would"
+        return f"{count} did{each}; without its new citations {would} would"
 
 
 class Causes:

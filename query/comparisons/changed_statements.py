@@ -1,7 +1,8 @@
-"""What an assertion says in OLD and in NEW that says something else now under the same label.
+"""What a label says in OLD and in NEW that says something else now, and what a new one says.
 
 A statement is written as a database has it, without labels: `$e |- p $. $d x y $. |- ( p -> q )`.
-The formula is always there; of the rest what differs. It is cut where it is long.
+The formula is always there; of the rest what differs, and of a new one all. It is cut where it is
+long.
 """
 
 from __future__ import annotations
@@ -40,11 +41,12 @@ SHOWN_STATEMENT, TOLD_STATEMENT = 300, 1000
 
 class Change(NamedTuple):
     """An assertion that was changed: in what its statements differ, in words, both of them, and how
-    the new one is related to the old one, one of HOW, None where that isn't looked at."""
+    the new one is related to the old one, one of HOW, None where that isn't looked at. One that is
+    new has no old statement, and nothing in which it differs from that."""
 
     label: str
-    differ: str
-    old: str
+    differ: str | None
+    old: str | None
     new: str
     how: str | None = None
 
@@ -89,10 +91,26 @@ def change_of(before: Assertion, after: Assertion, differ: str, most: int) -> Ch
     return Change(after.label, differ, *cut_both(old, new, most))
 
 
-def hypotheses(*frames: Frame) -> tuple[str, str]:
+def arrival_of(one: Assertion, most: int) -> Change:
+    """An assertion that is new, with so many characters of its statement at the most. Where it is
+    longer with all pairs of distinct variables, it has only their number."""
+    frame = one.frame()
+    given, count = essentials(frame), frame.disjoint.count(" $d ")
+    apart = f"$d {count} pairs $. " if count else ""
+    if len(given) + len(frame.disjoint) + len(one.formula) <= most:
+        pairs = pairs_lacking(dict.fromkeys(frame.pairs()), {})
+        apart = pairs if len(given + pairs + one.formula) <= most else apart
+    return Change(one.label, None, None, cut(given + apart + one.formula, most))
+
+
+def essentials(frame: Frame) -> str:
+    """The `$e`."""
+    return "".join(f"$e {each.formula} $. " for each in frame.essential())
+
+
+def hypotheses(old: Frame, new: Frame) -> tuple[str, str]:
     """The `$e` of both."""
-    old, new = ("".join(f"$e {each.formula} $. " for each in frame.essential()) for frame in frames)
-    return old, new
+    return essentials(old), essentials(new)
 
 
 def in_order(frame: Frame) -> str:
@@ -116,7 +134,10 @@ def pairs_lacking(some: dict[Pair, None], other: dict[Pair, None]) -> str:
 
 
 def in_words(change: Change) -> str:
-    """In what both statements differ, and how the new one is related to the old one."""
+    """In what both statements differ, and how the new one is related to the old one; or that the
+    assertion is new."""
+    if change.differ is None:
+        return "new"
     if change.how is None or change.differ in SAME_THEOREM:
         return change.differ
     return f"{change.differ}; {HOW[change.how]}"
@@ -127,5 +148,6 @@ def lines_of(changes: Iterable[Change]) -> Iterator[str]:
     for each in changes:
         yield ""
         yield f"{cut(each.label)}: {in_words(each)}"
-        yield f"  was  {each.old}"
+        if each.old is not None:
+            yield f"  was  {each.old}"
         yield f"  is   {each.new}"

@@ -20,6 +20,7 @@ from query.comparisons.pairing import (
     Cites,
     Pairing,
     Statement,
+    crossing,
     pairing_of,
     statement_of,
 )
@@ -146,7 +147,13 @@ class Comparison:
             [one for one in some.values() if one.kind == kind]
             for some in (self.differences.gone, self.differences.new)
         )
-        return pairing_of(gone, new, old_cites, new_cites)
+        return pairing_of(gone, new, old_cites, new_cites, self.crossed)
+
+    @cached_property
+    def crossed(self) -> dict[str, str]:
+        """The labels that were an axiom's and are a theorem's now, or the other way round, and say
+        something else, in words."""
+        return crossing(self.differences.gone, self.differences.new)
 
     @cached_property
     def to_old(self) -> dict[str, str]:
@@ -231,15 +238,15 @@ class Comparison:
 
     @cached_property
     def restated(self) -> frozenset[str]:
-        """The theorems of which one label says something else in OLD and in NEW. What one rests on
-        and the other doesn't is no gain or loss."""
+        """The labels of theorems that say something else in OLD and in NEW. What one statement
+        rests on and the other doesn't is no gain or loss."""
         changed = self.theorems.changed.items()
         return frozenset(label for label, differ in changed if differ not in SAME_THEOREM)
 
     def shift(self, theorem: str, was: str) -> tuple[list[str], list[str]]:
         """The axioms on which a theorem rests in NEW alone, by their labels there, and those on
-        which it rests in OLD alone, under the label that it has there. None where it is left open
-        in one of them."""
+        which that of a label of OLD rests there alone. None where it is left open in one of them.
+        """
         if theorem not in self.new.dependence.rows or self.old_text.by_label[was].letter != "p":
             return [], []
         now, before = self.row(theorem), self.row_before(was)
@@ -274,7 +281,7 @@ class Comparison:
         told = self.differences
         for theorem in self.new.dependence.theorems:
             was = self.to_old.get(theorem)
-            if was is None or theorem in self.restated:
+            if was is None or (was == theorem and theorem in self.restated):
                 continue
             if was != theorem or theorem in told.gained or theorem in told.lost:
                 yield theorem, was
@@ -323,7 +330,7 @@ class Comparison:
         """New theorems that say and cite what a theorem of OLD did, which is there and says the
         same but got another proof: they have its old proof. For each the label of that theorem."""
         wanted: dict[Statement, list[str]] = {}
-        for label in self.theorems.new:
+        for label in self.theorems.unknown:
             wanted.setdefault(statement_of(self.text.by_label[label]), []).append(label)
         formulas = {statement.formula for statement in wanted}
         found: dict[str, str] = {}

@@ -1,7 +1,8 @@
 """Which assertion of one database is which of another where the program says that these differ: one
 that says something else now, or one that has another label.
 
-The same label, kind and frame is the same assertion: the program says so. That an assertion was
+The same label, kind and frame is the same assertion: the program says so. A label that both have
+with another statement was changed, whatever became of its old statement. That an assertion was
 renamed is a guess. It is made where two of different labels say the same: the formula, the
 mandatory hypotheses in order, and the pairs of variables that must be distinct. The labels of
 hypotheses aren't part of that, and neither are variables that only the proof has.
@@ -15,6 +16,7 @@ from collections.abc import Callable, Iterable, Iterator, Mapping, Sequence
 from dataclasses import dataclass, field
 from functools import cached_property
 from hashlib import blake2b
+from types import MappingProxyType
 from typing import NamedTuple
 
 from query.texts.assertions import Assertion, Damaged, Pair
@@ -28,6 +30,7 @@ OTHER_NAMES = "only the names of variables are other"
 SAME_THEOREM = (ANOTHER_ORDER, OTHER_NAMES)
 """Where statements differ in no more than this, a theorem is the same one to what rests on axioms.
 """
+AN_AXIOM = ("it is a theorem now, and was an axiom", "it is an axiom now, and was a theorem")
 FORMULA, HYPOTHESES, DISTINCT = "the formula", "the hypotheses", "the $d conditions"
 """In what statements differ."""
 
@@ -106,10 +109,13 @@ def difference(old: Statement, new: Statement) -> str:
 
 
 def difference_in_words(old: Assertion, new: Assertion) -> str:
-    """The same of two assertions, as `compare` tells it of one label."""
+    """The same of two assertions, as `compare` tells it of one label; also that one of them is an
+    axiom, and the other one a theorem."""
     words = difference(statement_of(old), statement_of(new))
     has_other_names = words not in ("", ANOTHER_ORDER) and are_alike(old, new)
-    return OTHER_NAMES if has_other_names else words
+    words = OTHER_NAMES if has_other_names else words
+    kinds = "" if old.kind == new.kind else AN_AXIOM[new.kind == "a"]
+    return "; ".join(filter(None, (kinds, words)))
 
 
 @dataclass
@@ -119,21 +125,38 @@ class Pairing:
     renamed: dict[str, str] = field(default_factory=dict)
     """For labels of NEW the label in OLD, which is gone or another statement's now."""
     changed: dict[str, str] = field(default_factory=dict)
-    """For those with the same label and another statement in what these differ, in words."""
+    """For all labels that both have, with another statement, in what these differ, in words. They
+    may be renamed too, and so may their old statements. What they are of in OLD may be of the other
+    kind."""
     new: list[str] = field(default_factory=list)
+    """The other labels that weren't renamed, and that OLD hasn't, or has for the same statement as
+    one of the other kind."""
     gone: list[str] = field(default_factory=list)
+    """The same of OLD: those whose statements have no other label now."""
+    unknown: list[str] = field(default_factory=list)
+    """The labels of NEW whose assertions OLD has under no label."""
 
     @cached_property
     def now(self) -> dict[str, str]:
         """For renamed labels of OLD the label in NEW."""
         return {old: new for new, old in self.renamed.items()}
 
+    def is_another(self, label: str) -> bool:
+        """Whether a changed label is that of another assertion now: what it says had another label
+        before, or what it said has another one now."""
+        return label in self.renamed or label in self.now
+
 
 def pairing_of(
-    gone: Sequence[Assertion], new: Sequence[Assertion], old_cites: Cites, new_cites: Cites
+    gone: Sequence[Assertion],
+    new: Sequence[Assertion],
+    old_cites: Cites,
+    new_cites: Cites,
+    crossed: Mapping[str, str] = MappingProxyType({}),
 ) -> Pairing:
     """Pairs assertions of one kind that OLD alone has with those that NEW alone has. The citations
-    are asked for only where several say the same."""
+    are asked for only where several say the same. `crossed` has the labels that say something else
+    as one of the other kind, in words."""
     before = {one.label: (one.letter, statement_of(one)) for one in gone}
     after = {one.label: (one.letter, statement_of(one)) for one in new}
     words = {label: in_words(before[label], one) for label, one in after.items() if label in before}
@@ -147,15 +170,25 @@ def pairing_of(
     for statement, labels in new_ones.items():
         found.update(matched(old_ones.get(statement, []), labels, old_cites, new_cites))
     pairing = Pairing({label: found[label] for label in after if label in found})
-    for label in after:
-        if label in words and label not in found and label not in pairing.now:
-            if label not in opened:
-                pairing.changed[label] = words[label]
-        elif label not in found:
-            pairing.new.append(label)
-    stayed = {*pairing.now, *pairing.changed, *opened}
-    pairing.gone = [label for label in before if label not in stayed]
+    # A guess takes nothing from what is known: that a label says something else now.
+    said = {**crossed, **words}
+    pairing.changed = {label: said[label] for label in after if said.get(label)}
+    pairing.new = [label for label in after if label not in said and label not in found]
+    pairing.gone = [label for label in before if label not in said and label not in pairing.now]
+    stayed = words.keys() - pairing.now.keys()
+    pairing.unknown = [label for label in after if label not in stayed and label not in found]
     return pairing
+
+
+def crossing(gone: Mapping[str, Assertion], new: Mapping[str, Assertion]) -> dict[str, str]:
+    """For labels of an axiom in one of OLD and NEW, and of a theorem in the other, that say
+    something else, in what they differ, in words."""
+    both = ((gone[label], one) for label, one in new.items() if label in gone)
+    return {
+        one.label: difference_in_words(before, one)
+        for before, one in both
+        if before.kind != one.kind and statement_of(before) != statement_of(one)
+    }
 
 
 def in_words(old: tuple[str, Statement], new: tuple[str, Statement]) -> str:

@@ -171,8 +171,11 @@ class Grounds:
             None,
         )
 
-    def lacking(self, each: Ground) -> tuple[str, str]:
-        """Why a definition isn't sound: the condition, and more."""
+    def lacking(self, each: Ground, is_wrong: bool) -> tuple[str, str]:
+        """Why a definition isn't sound: the condition, and more. Where it `is_wrong`, its doubt."""
+        if WFF not in self.known.equalities and not is_wrong:
+            why = f"there is no equality of typecode {WFF}, by which what equals a theorem is one"
+            return "equality", f"{why}; definitions are only judged where there is one"
         if each.doubt is not None:
             return each.doubt
         need = self.first_lacking(of(each))
@@ -184,7 +187,7 @@ class Grounds:
         said = need[1:] if need[0] == "exists" else need
         theorems = self.known.found.get(said, ())
         if not theorems:
-            return condition, f"no theorem says that {in_words(said)}"
+            return condition, f"no theorem is found which says that {in_words(said)}"
         bad = next(each for each in self.definitions_of(theorems[0]) if each not in self.holds)
         return condition, f"{theorems[0]}, which says that {in_words(said)}, rests on {bad[1]}"
 

@@ -8,10 +8,13 @@ form may come under itself, and each is gone into once.
 
 from __future__ import annotations
 
-from collections.abc import Iterable, Iterator
+from array import array
+from collections.abc import Callable, Iterable, Iterator
 from dataclasses import dataclass
 
 from query.answers.errors import NoAnswer
+from query.citations import subgraphs
+from query.citations.graph import Graph, Lists
 from query.definitions.soundness import Broken, Definitions, is_definition
 from query.formulas.grammar import NotRead, Part, Tree
 from query.formulas.syntax import parts_within, read_as
@@ -116,6 +119,25 @@ class Needs:
             if not is_above:
                 gone_into.add(form)
                 left += [(each, depth + 1) for each in reversed(below)]
+
+    def part(self, one: Assertion, passes: Callable[[str], bool]) -> subgraphs.Part:
+        """The same as a graph, without the forms that don't pass: what has arrows are the forms
+        that have a definition, and at last the statement, each to its forms in file order. A syntax
+        axiom is its own form."""
+        forms = self.forms_of(one)
+        needed = {form for form in self.all(forms) if passes(form)} - {one.label}
+        in_order = [form for form in self.judged.grammar.shapes if form in needed]
+        place_of = {form: place for place, form in enumerate(in_order)}
+        heads = [*(form for form in in_order if form in self.under), one.label]
+        labels = [*heads, *(form for form in in_order if form not in self.under)]
+        numbers = {label: number for number, label in enumerate(labels)}
+        below = self.under | {one.label: self.under.get(one.label, forms)}
+        places, targets = array("I", [0]), array("I")
+        for head in heads:
+            others = {*below[head]} & needed - {head}
+            targets.extend(numbers[form] for form in sorted(others, key=place_of.__getitem__))
+            places.append(len(targets))
+        return subgraphs.whole(Graph(one.label, labels, len(heads), Lists(places, targets)))
 
 
 def forms_in(tree: Tree, parts: Iterable[Part]) -> list[str]:

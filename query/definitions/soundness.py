@@ -27,6 +27,10 @@ EQUATIONS = {("(", WFF, "<->", WFF, ")"), (CLASS, "=", CLASS)}
 TRUSTED = ("df-bi", "df-clab", "df-cleq", "df-clel")
 """The definitions that are axioms where none are named: those for which, as set.mm's page
 `conventions` says, its rules are too strict."""
+NO_EQUALITY = (
+    "there is no equality, ( wff <-> wff ) or class = class; `definitions --equality` names the"
+    " syntax axiom of another one"
+)
 MOST_LEFT_VARIABLES = 100
 """Of more variables of a left side nothing is judged, since each two of them are looked at."""
 
@@ -40,8 +44,8 @@ CONDITIONS = {
     "new": "the form is in no axiom before, and not in RIGHT",
     "rests": "the forms of RIGHT are primitive, or their definitions are sound",
     "distinct": "no $d is of two variables of LEFT, and each dummy has one with all others",
-    "dummy": "a dummy is of typecode setvar",
-    "bound": "a dummy is bound wherever it stands",
+    "dummy": "a dummy is of typecode setvar, or a theorem justifies it",
+    "bound": "a dummy is bound wherever it stands, or a theorem justifies it",
     "renaming": "theorems say that the dummies may have other names",
     "pairs": "where a dummy needs it, no axiom has a $d of two variables other than of setvar",
     "equality": "theorems say that the equality is one",
@@ -65,7 +69,8 @@ class Verdict:
 
 
 class Broken(Exception):
-    """A definition breaks a condition; or, where it `is_unknown`, isn't seen to keep it."""
+    """A definition breaks a condition, by what shows that it is wrong. Where it `is_unknown`, it
+    isn't seen to keep the condition, or isn't of the form that is judged."""
 
     def __init__(self, condition: str, why: str, is_unknown: bool = False) -> None:
         super().__init__(why)
@@ -122,6 +127,10 @@ class Definition:
     def dummies(self) -> dict[str, str]:
         """Those that the left side lacks."""
         return {each: kind for each, kind in self.on_the_right().items() if each not in self.left}
+
+    def equals_anything(self) -> bool:
+        """Whether the right side is a dummy alone, so that anything equals the left one."""
+        return self.right not in self.tree.rules and bool(self.dummies())
 
     def forms(self) -> set[str]:
         """The forms of the right side."""
@@ -337,22 +346,32 @@ class Definitions:
         """The definition that a formula is. Broken where it is none."""
         symbols, variables = read_as(one)
         if not self.equalities:
-            raise Broken("form", "there is no equality, ( wff <-> wff ) or class = class", True)
+            raise Broken("form", NO_EQUALITY, True)
         rule = tree.rules.get(tree.root)
         if rule is None or rule not in self.equalities.values():
-            raise Broken("form", f"it is {self.no_equation()}")
+            raise Broken("form", f"it is {self.no_equation()}", True)
         if one.frame().essential():
-            raise Broken("form", "it has a $e")
+            raise Broken("form", "it has a $e", True)
         left, right = tree.below[tree.root]
         if left not in tree.rules:
-            raise Broken("left", "its left side is a variable")
+            raise variable_as_left(symbols[left.start], symbols[right.start : right.end])
         if any(part in tree.rules for part in tree.below[left]):
-            raise Broken("left", "its left side has more than a form and variables")
+            why = "its left side has more than a form and variables"
+            if self.leaves_out_cases(one, tree, left):
+                raise Broken("left", f"{why}, so it leaves out cases")
+            raise Broken("left", why, True)
         names = [symbols[part.start] for part in tree.below[left]]
         if len(set(names)) < len(names):
             raise Broken("left", "its left side has a variable twice")
         defined = tree.rules[left]
         return Definition(one, symbols, variables, tree, left.typecode, defined, names, right)
+
+    def leaves_out_cases(self, one: Assertion, tree: Tree, left: Part) -> bool:
+        """Whether a left side that has forms within can only define the outer one, which no axiom
+        has before, as one has each of the others. Otherwise it may say what one within is."""
+        outer = tree.rules[left]
+        within = {tree.rules[part] for part in parts_within(tree, left)} - {outer}
+        return self.first[outer] is one and all(self.first[form] is not one for form in within)
 
     def sides(self, label: str) -> tuple[str, str] | None:
         """The left and the right side of a definition; None where it isn't seen to be an
@@ -412,8 +431,10 @@ class Definitions:
 
     def see_new(self, each: Definition) -> None:
         """Broken where the form is used before, or on the right side."""
-        if each.defined in self.equalities.values():
-            raise Broken("new", f"its left side has the form of an equality, {each.defined}")
+        if each.defined == self.equalities[each.typecode]:
+            raise Broken(
+                "new", f"its left side has the form {each.defined}, by which it is an equation"
+            )
         if each.defined in each.forms():
             raise Broken("new", f"its right side has the form {each.defined}, which it defines")
         user = self.first[each.defined]
@@ -421,6 +442,8 @@ class Definitions:
             raise Broken(
                 "new", f"{user.label} before it has the form {each.defined}, which it defines"
             )
+        if each.defined in self.equalities.values():
+            raise Broken("new", f"its left side has the form of an equality, {each.defined}", True)
 
     def see_forms(self, each: Definition) -> None:
         """Broken where a form of the right side has a definition that isn't one."""
@@ -442,7 +465,10 @@ class Definitions:
         scopes = self.scopes(each)
         for name, kind in each.dummies().items():
             if kind != SETVAR:
-                why = f"the dummy {name} is no {SETVAR}, and no theorem justifies it"
+                what = f"the dummy {name} is no {SETVAR}"
+                if each.equals_anything():
+                    what = f"its right side is just the dummy {name}, so it equals anything"
+                why = f"{what}, and no theorem is found which justifies it"
                 each.doubt = each.doubt or ("dummy", why)
             elif scopes.is_free(name):
                 if name not in scopes.bound:
@@ -497,8 +523,10 @@ class Definitions:
         self.grounds = grounds
         for each in seen:
             if (BEGINNING, each.label) not in holds:
-                condition, why = grounds.lacking(each)
-                verdict = Verdict(each.label, UNKNOWN, condition, why, each.defined)
+                is_wrong = self.definitions[each.label].equals_anything()
+                condition, why = grounds.lacking(each, is_wrong)
+                sound = NO if is_wrong else UNKNOWN
+                verdict = Verdict(each.label, sound, condition, why, each.defined)
             elif self.broken:
                 verdict = self.broken[0].verdict(each.label, each.defined)
             else:
@@ -515,11 +543,9 @@ class Definitions:
             yield "equality", form, " ".join(self.grammar.shapes[form])
         for form in self.primitives():
             shape = " ".join((self.grammar.typecodes[form], *self.grammar.shapes[form]))
-            closed = (
-                ""
-                if self.grounds.is_open(form)
-                else "; no theorem says that equals may be put into it"
-            )
+            closed = "; no theorem is found which says that equals may be put into it"
+            if self.grounds.is_open(form) or WFF not in self.equalities:
+                closed = ""
             yield "primitive", form, shape + closed
         for said in self.known.found:
             theorem = self.grounds.theorem_for(said)
@@ -555,6 +581,14 @@ class Definitions:
         )
 
 
+def variable_as_left(name: str, right: Container[str]) -> Broken:
+    """What is found where a left side is just a variable. Where the right one lacks it, all is
+    equal; `( ph <-> -. -. ph )` may be right, and defines nothing."""
+    if name in right:
+        return Broken("left", "its left side is a variable", True)
+    return Broken("left", "its left side is a variable, so anything equals the right one")
+
+
 def binding_of(each: Definition, scopes: Scopes) -> Binding:
     """What the form of a definition binds."""
     setvars = [number for number, name in enumerate(each.left) if each.variables[name] == SETVAR]
@@ -571,12 +605,12 @@ def binding_of(each: Definition, scopes: Scopes) -> Binding:
 
 
 def see_distinct(each: Definition) -> None:
-    """Broken where a `$d` is missing or one too many."""
+    """Broken where there is a `$d` that mustn't be, or none that has to be."""
     pairs = set(each.one.frame().pairs())
     left = set(each.left)
     for one, other in sorted(pairs):
         if one in left and other in left:
-            why = f"{one} and {other} of its left side have to be distinct by a $d"
+            why = f"a $d keeps {one} and {other} of its left side distinct, so it leaves out cases"
             raise Broken("distinct", why)
     dummies = each.dummies()
     for dummy in dummies:

@@ -12,6 +12,7 @@ from collections.abc import Iterable, Iterator
 from dataclasses import dataclass
 from textwrap import fill
 
+from query.platform import progress
 from query.texts.assertions import Assertion
 from query.texts.text import Place, Text
 from query.texts.uncommented import without_comments
@@ -47,7 +48,11 @@ def needed_by(text: Text, wanted: Iterable[Assertion]) -> tuple[set[int], set[st
     left = [*wanted]
     numbers = {one.number for one in left}
     hypotheses: set[str] = set()
+    done = 0
     while left:
+        if done % progress.STEP == 0:
+            progress.now(f"reading proofs, {done} of {done + len(left)} are done")
+        done += 1
         for label in labels_in(text.proof(left.pop())):
             one = text.find(label)
             if one is None:
@@ -130,13 +135,14 @@ def with_needed_symbols(items: list[Item], labels: set[str]) -> Iterator[Item]:
             yield Item([*item.words[:at], *left, "$."])
 
 
-def extract(text: Text, wanted: Iterable[Assertion]) -> Iterator[str]:
-    """The lines of a database with these assertions and all that their proofs name. Each assertion
-    stands as it is written in the text, behind the comment that describes it."""
-    numbers, labels = needed_by(text, wanted)
+def extract(text: Text, numbers: set[int], labels: set[str]) -> Iterator[str]:
+    """The lines of a database with the assertions of these numbers and the hypotheses of these
+    labels, as `needed_by` has them. Each assertion stands as it is written in the text, behind the
+    comment that describes it."""
     items = without_idle_blocks(items_of(text, numbers))
     depth = 0
-    for item in with_needed_symbols(items, labels):
+    left = [*with_needed_symbols(items, labels)]
+    for item in progress.counted(left, "writing statements"):
         depth -= item.keyword == "$}"
         space = INDENTATION * min(depth, DEEPEST)
         if item.assertion is None:

@@ -13,10 +13,11 @@ from collections import Counter
 from collections.abc import Iterable, Iterator, Mapping, Sequence
 from dataclasses import dataclass, replace
 from functools import cached_property
-from itertools import groupby, takewhile
+from itertools import groupby, islice, takewhile
 from typing import NamedTuple
 
 from query.answers.errors import NoAnswer, nearest, shown
+from query.formulas.bracketed import CLOSING, OPENING
 from query.formulas.brackets import Level, Reader
 from query.formulas.descent_parser import OF_TYPECODE
 from query.formulas.syntax import syntax_of
@@ -25,6 +26,7 @@ from query.texts.assertions import Assertion
 from query.texts.floating import floating_of
 from query.texts.text import Text
 
+ARROW = "->"
 QUOTED = re.compile(r'\s*"\s*([^"]*?)\s*"\s*')
 MOST_TRIED, MOST_OF_SYMBOL = 100_000, 100
 """So many symbols of patterns, and so many for each symbol of a formula, are compared with it."""
@@ -109,6 +111,40 @@ def pattern_of(text: Text, name: str, word: str) -> Pattern:
     return Pattern(symbols, {} if quoted else kinds)
 
 
+def without_typecode(text: Text, pattern: Pattern) -> Pattern | None:
+    """A pattern without the typecode with which it begins; None where it begins with none, or has
+    nothing else."""
+    first, *others = pattern.symbols
+    if not others or not any(one.typecode == first for one in text.assertions):
+        return None
+    return replace(pattern, symbols=tuple(others))
+
+
+def conclusions(symbols: Sequence[str]) -> dict[int, int]:
+    """Where the conclusions of a formula begin, and for each the place behind it: all that stands
+    behind the typecode, and of a conclusion `( X -> Y )` also Y."""
+    closing: dict[int, int] = {}
+    opened: list[int] = []
+    for place, symbol in enumerate(symbols):
+        if symbol == OPENING:
+            opened.append(place)
+        elif symbol == CLOSING and opened:
+            closing[opened.pop()] = place
+    start, end = 1, len(symbols)
+    found = {start: end}
+    while closing.get(start) == end - 1:
+        end -= 1
+        arrows, place = [], start + 1
+        while place < end:
+            arrows += [place] if symbols[place] == ARROW else []
+            place = closing.get(place, place) + 1
+        if len(arrows) != 1:
+            break
+        start = arrows[0] + 1
+        found[start] = end
+    return found
+
+
 def typecode_of_symbol(text: Text, name: str, symbol: str) -> str | None:
     """The typecode of a symbol that is a variable, None for a constant. NoAnswer where no statement
     has it."""
@@ -160,11 +196,13 @@ class Ways(NamedTuple):
 
 class Sought:
     """A pattern, and what is known of formulas that were looked at. In a database that was verified
-    a variable has one typecode wherever it stands, so that equal formulas are the same."""
+    a variable has one typecode wherever it stands, so that equal formulas are the same. Where it
+    `is_conclusion`, a formula has it only as one of its conclusions."""
 
-    def __init__(self, pattern: Pattern, reader: Reader) -> None:
+    def __init__(self, pattern: Pattern, reader: Reader, is_conclusion: bool = False) -> None:
         self.pattern = pattern
         self.reader = reader
+        self.is_conclusion = is_conclusion
         self.near = pattern.near(reader) if pattern.kinds else []
         self.known: dict[str, Ways] = {}
 
@@ -178,12 +216,14 @@ class Sought:
     def _ways(self, formula: str) -> Ways:
         if not may_have(f" {formula} ", self.pattern.runs):
             return Ways(())
-        if not self.pattern.kinds:
+        if not self.pattern.kinds and not self.is_conclusion:
             return Ways([{}])
         symbols = formula.split(" ")
         level, is_read = self.reader.level(symbols)
+        is_read = is_read or not self.pattern.kinds
+        match = Match(symbols, level, conclusions(symbols) if self.is_conclusion else None)
         try:
-            return Ways(Match(symbols, level).ways(self.pattern, self.near), is_read)
+            return Ways(match.ways(self.pattern, self.near), is_read)
         except TooMany:
             return Ways((), is_read, True)
 
@@ -194,16 +234,19 @@ Wanted = Sequence[tuple[Sought, Sequence[str]]]
 
 class Searcher:
     """Finds patterns in the formulas of some statements of a database, which has `every` one; in
-    those of their `$e` too where it `takes_hypotheses`."""
+    those of their `$e` too where it `takes_hypotheses`, and only as conclusions where it
+    `takes_conclusions`."""
 
     def __init__(
         self,
         assertions: Sequence[Assertion],
         every: Sequence[Assertion],
         takes_hypotheses: bool = True,
+        takes_conclusions: bool = False,
     ) -> None:
         self.assertions = assertions
         self.takes_hypotheses = takes_hypotheses
+        self.takes_conclusions = takes_conclusions
         self.reader = Reader(syntax_of(every))
         self.unread: dict[tuple[str, str], None] = {}
         """The formulas that have no tree, each with the label of its statement."""
@@ -212,13 +255,23 @@ class Searcher:
         self._declared: set[str] = set()
         """The `$f` whose variables are declared."""
 
-    def hits(self, patterns: Sequence[Pattern], given: Sequence[Pattern] = ()) -> Iterator[Hit]:
+    def hits(
+        self,
+        patterns: Sequence[Pattern],
+        given: Sequence[Pattern] = (),
+        lacked: Sequence[Pattern] = (),
+    ) -> Iterator[Hit]:
         """The formulas that have all patterns, in file order, a statement before its `$e`; only of
-        statements that have a `$e` with each of those in `given`."""
-        sought = [Sought(each, self.reader) for each in sharing([*patterns, *given])]
-        own, conditions = sought[: len(patterns)], sought[len(patterns) :]
+        statements that have a `$e` with each of those in `given`, and without those that would be
+        found with one of `lacked` in `given` too."""
+        every = sharing([*patterns, *given, *lacked])
+        left = iter(every)
+        as_what = self.takes_conclusions
+        own = [Sought(each, self.reader, as_what) for each in islice(left, len(patterns))]
+        conditions = [Sought(each, self.reader) for each in islice(left, len(given))]
+        lacking = [Sought(each, self.reader) for each in left]
         for one in progress.counted(self.assertions, "searching"):
-            if not all(may_have(f"{one.said} ", each.pattern.runs) for each in sought):
+            if not all(may_have(f"{one.said} ", each.pattern.runs) for each in own + conditions):
                 continue
             formulas = self.formulas_of(one)
             others = [formula for _, formula in formulas[1:]]
@@ -230,10 +283,16 @@ class Searcher:
                     *((each, [formula]) for each in own),
                 ]
                 try:
-                    if Agreement(self, one.label).holds(wanted, {}):
+                    if self.holds(one, wanted) and not any(
+                        self.holds(one, [(each, others), *wanted]) for each in lacking
+                    ):
                         yield Hit(one, label, formula)
                 except TooMany:
                     self.given_up[one.label, formula] = None
+
+    def holds(self, one: Assertion, wanted: Wanted) -> bool:
+        """Whether the formulas of a statement agree. TooMany where that takes too long to say."""
+        return Agreement(self, one.label).holds(wanted, {})
 
     def note(self, label: str, formula: str, ways: Ways) -> None:
         """Notes what isn't known of a formula."""
@@ -296,11 +355,15 @@ NONE: Mapping[int, Sequence[int]] = {}
 
 
 class Match:
-    """Looks for patterns in one formula."""
+    """Looks for patterns in one formula. With `ends` a pattern begins at one of these places, and
+    ends before the one that this has."""
 
-    def __init__(self, symbols: Sequence[str], whole: Level) -> None:
+    def __init__(
+        self, symbols: Sequence[str], whole: Level, ends: Mapping[int, int] | None = None
+    ) -> None:
         self.symbols = symbols
         self.whole = whole
+        self.ends = ends
         self.left = MOST_TRIED + MOST_OF_SYMBOL * len(symbols)
 
     def ways(self, pattern: Pattern, near: Sequence[str]) -> list[Way]:
@@ -325,7 +388,8 @@ class Match:
             level, above = left.pop()
             is_near = all(map(level.tokens.__contains__, near))
             for index in self.starts(level, above, pattern.steps[0], is_near):
-                yield from self.at(pattern.steps, (0, level, index, above, {}))
+                if self.ends is None or level.places[index] in self.ends:
+                    yield from self.at(pattern.steps, (0, level, index, above, {}))
             for index, below in level.below.items():
                 left.append((below, (level, index, above)))
 
@@ -346,6 +410,8 @@ class Match:
     def at(self, steps: Sequence[Step], state: State) -> Iterator[Bound]:
         """What is bound in each way in which a pattern is at a token."""
         left = [state]
+        _, level, index, _, _ = state
+        wanted = None if self.ends is None else self.ends[level.places[index]]
         while left:
             state = left.pop()
             first, level, index, above, bound = state
@@ -375,7 +441,8 @@ class Match:
                     break
                 index = end
             else:
-                yield bound
+                if wanted in (None, level.places[index]):
+                    yield bound
             self.left -= number - first + 1
             if self.left < 0:
                 raise TooMany

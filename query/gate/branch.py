@@ -123,7 +123,10 @@ def request_of(branch: Branch, name: str) -> Request:
         if objects.entry(places.new, branch.path) != objects.entry(places.head, branch.path):
             notes.append(f"lines of {shown(branch.path)} are those of its merge with {places.said}")
         sources = (Source(shown(f"{short(places.old)}:{branch.path}"), old), Source(name, new))
-        request = Request(*sources, places.said, notes=tuple(notes))
+        judged = short(branch.commit)
+        if places.head != branch.commit:
+            judged += ", with what isn't committed"
+        request = Request(*sources, places.said, judged, notes=tuple(notes))
         request = with_configs(request, branch, objects, places, given)
         beside = [
             *of_attributes(objects, places, branch.path, old, new),

@@ -6,7 +6,7 @@ from __future__ import annotations
 import json
 import os
 import re
-from collections.abc import Callable, Iterable, Iterator
+from collections.abc import Callable, Iterable, Iterator, Sequence
 from dataclasses import asdict, dataclass, field, replace
 from itertools import chain
 
@@ -33,6 +33,8 @@ class Verdict:
 
     request: Request
     found: Iterable[Finding]
+    remarks: Sequence[str] = ()
+    """Notes that come to be while findings are taken."""
     count: int = 0
     """How many findings there were, as far as they were taken."""
     first: list[Finding] = field(default_factory=list)
@@ -54,9 +56,19 @@ class Verdict:
         return self.request.base
 
     @property
+    def judged(self) -> str:
+        """Of which commit it is, as the end of its name; "" for a file beside another one."""
+        return f" ({self.request.judged})" if self.request.judged else ""
+
+    @property
+    def lacks(self) -> str:
+        """That no axiom is watched, as the end of a sentence: who asks might think that one is."""
+        return "" if self.request.watched() else "; no axiom is watched"
+
+    @property
     def notes(self) -> list[str]:
         """Remarks that don't change the answer."""
-        return self.request.all_notes()
+        return [*self.request.all_notes(), *self.remarks]
 
     def to_allow(self) -> Iterator[str]:
         """What the file would have to have under `allow`, key by key, to let through what was told;
@@ -111,7 +123,8 @@ def counted(count: int, word: str) -> str:
 
 def summary(verdict: Verdict) -> str:
     """The answer in one line."""
-    return f"{answer(verdict)}: {verdict.database} compared with {verdict.base}"
+    judged = f"{verdict.database}{verdict.judged}"
+    return f"{answer(verdict)}: {judged} compared with {verdict.base}{verdict.lacks}"
 
 
 def rest(findings: int, notes: int = 0) -> str:
@@ -154,7 +167,9 @@ def as_json(verdict: Verdict, is_short: bool) -> Iterator[str]:
     known = {
         "passed": first is None,
         "database": verdict.database,
+        "judged": verdict.request.judged or None,
         "base": verdict.base,
+        "watched": verdict.request.watched(),
         "rules": list(verdict.request.rules()),
     }
     yield json.dumps(known, indent=1).removesuffix("\n}") + ',\n "findings": ['
@@ -215,7 +230,8 @@ def as_summary(verdict: Verdict, path: str) -> str:
 def markdown_within(verdict: Verdict, room: int) -> str:
     """The same of no more bytes than there is room, as far as the answer itself allows."""
     lines = Lines(room - ENDING)
-    compared = f"{in_markdown(verdict.database)} compared with {in_markdown(verdict.base)}"
+    judged = f"{in_markdown(verdict.database)}{verdict.judged}"
+    compared = f"{judged} compared with {in_markdown(verdict.base)}{verdict.lacks}"
     lines.add(f"### mmquery gate: {answer(verdict)}: {compared}", "")
     if verdict.first:
         lines.add("| Rule | Place | Label | Axiom | Reason |", "|---|---|---|---|---|")

@@ -47,7 +47,8 @@ class Introduced:
         """The axiom of OLD that says something else, unfolded, by what a definition says that is
         new or changed; "" where there is none."""
         told, axioms = self.comparison.differences.new, self.comparison.axioms
-        is_same = label in axioms.renamed or axioms.changed.get(label) == ANOTHER_ORDER
+        has_order = axioms.changed.get(label) == ANOTHER_ORDER and not axioms.is_another(label)
+        is_same = label in axioms.renamed or has_order
         if label not in told or is_same or not self.judged.is_sound(label):
             return ""
         return self.spoken_of.get(str(self.judged.verdicts[label].defines), "")

@@ -15,6 +15,7 @@ from query.answers.excerpts import SHOWN_FORMULA, cut
 from query.citations.crossing import across_mathboxes, citations
 from query.comparisons.changed_statements import change_of
 from query.comparisons.changes import Comparison, Side
+from query.comparisons.pairing import SAME_THEOREM
 from query.comparisons.two_texts import OldText, words_of_proof
 from query.gate.arrivals import Arrivals
 from query.gate.config import LABEL, RULES, Claim, Config
@@ -119,13 +120,12 @@ class Case:
 def axioms(case: Case) -> Iterator[Finding]:
     """An axiom is new, changed or gone, and isn't allowed. What the rule `definitions` judges is
     left to it."""
-    judged: set[str] = set()
+    left: frozenset[str] = frozenset()
     if "definitions" in case.config.rules:
-        judged |= introduced(case.comparison).apart
+        left = introduced(case.comparison).apart
     for label, reason in (*axioms_now(case), *axioms_gone(case)):
-        if label not in judged and not case.config.allows("axioms", label):
+        if label not in left and not case.config.allows("axioms", label):
             yield case.finding("axioms", label, reason, label)
-        judged.add(label)
 
 
 def definitions(case: Case) -> Iterator[Finding]:
@@ -136,19 +136,24 @@ def definitions(case: Case) -> Iterator[Finding]:
 
 
 def axioms_now(case: Case) -> Iterator[tuple[str, str]]:
-    """The axioms of NEW that OLD hasn't, or has otherwise, with the reason."""
-    for one in case.comparison.differences.new.values():
-        if one.kind == "a" and one.label in case.comparison.axioms.changed:
-            before = case.comparison.differences.gone[one.label]
+    """The axioms of NEW that OLD hasn't, or has otherwise, with the reason. One that was renamed to
+    a label of OLD has two."""
+    pairing, told = case.comparison.axioms, case.comparison.differences
+    for one in told.new.values():
+        if one.kind != "a":
+            continue
+        before = told.gone.get(one.label)
+        is_known = before is not None and before.kind == "a"
+        if before is not None and is_known:
             if any(map(case.judges_axioms_of, (one.typecode, before.typecode))):
                 yield one.label, reason_of_changed(case, before, one)
-        elif one.kind == "a" and case.judges_axioms_of(one.typecode):
-            yield one.label, reason_of_new(case, one)
+        if not is_known or one.label in pairing.renamed:
+            if case.judges_axioms_of(one.typecode):
+                yield one.label, reason_of_new(case, one)
 
 
 def axioms_gone(case: Case) -> Iterator[tuple[str, str]]:
-    """The axioms of OLD that aren't in NEW under their label, whatever has it now, with the
-    reason."""
+    """The axioms of OLD of whose labels NEW has no axiom, with the reason."""
     for one in case.comparison.differences.gone.values():
         is_judged = one.kind == "a" and case.judges_axioms_of(one.typecode)
         if is_judged and one.label not in case.comparison.axioms.changed:
@@ -188,12 +193,8 @@ def reason_of_gone(case: Case, label: str) -> str:
     now = case.comparison.axioms.now.get(label)
     if now:
         return f"an axiom that is gone; its statement has the label {now}"
-    after = case.text.find(label)
-    if after is None:
-        return "an axiom that is gone"
-    if after.kind == "p":
-        return "an axiom before, and a theorem now"
-    return "an axiom that is gone; another one has its label"
+    is_theorem = case.text.find(label) is not None
+    return "an axiom before, and a theorem now" if is_theorem else "an axiom that is gone"
 
 
 def watched(case: Case) -> Iterator[Finding]:
@@ -259,15 +260,16 @@ def watched_axioms(case: Case) -> list[str]:
 
 def newly(case: Case) -> Iterator[Finding]:
     """A theorem that was there before newly rests on a watched axiom, and isn't allowed."""
-    yield from arrived(case, "newly", "newly rests on")
+    yield from arrived(case, "newly")
 
 
 def new(case: Case) -> Iterator[Finding]:
-    """A new theorem rests on a watched axiom, and isn't allowed."""
-    yield from arrived(case, "new", "a new theorem that rests on")
+    """A new theorem rests on a watched axiom, and isn't allowed; or one that has the label of one
+    that was renamed."""
+    yield from arrived(case, "new")
 
 
-def arrived(case: Case, rule: str, how: str) -> Iterator[Finding]:
+def arrived(case: Case, rule: str) -> Iterator[Finding]:
     """What breaks one of these rules: the first theorem for each proof that is the cause, or all
     theorems with all axioms."""
     if case.config.watch and rule in case.config.of_main[:1]:
@@ -279,7 +281,7 @@ def arrived(case: Case, rule: str, how: str) -> Iterator[Finding]:
             others = f" and {more(each.axioms, 'watched axiom')}" if each.axioms else ""
             way = way_of(each.theorem, each.citing, each.cited)
             so_do = f"; with {more(each.theorems, 'theorem')} by that" if each.theorems else ""
-            reason = f"{how_of(case, each.theorem, how)} {each.axiom}{others}: {way}{so_do}"
+            reason = f"{how_of(case, rule, each.theorem)} {each.axiom}{others}: {way}{so_do}"
             reason += why_judged(case, rule, each.theorem)
             allow = key_of(rule, each.axiom)
             yield case.finding(rule, each.theorem, reason, each.axiom, allow)
@@ -288,7 +290,7 @@ def arrived(case: Case, rule: str, how: str) -> Iterator[Finding]:
         for column in arrival.columns:
             axiom = case.new.dependence.axioms[column]
             way = way_of(arrival.theorem, *case.arrivals.cause(arrival.row, column))
-            reason = f"{how_of(case, arrival.theorem, how)} {axiom}: {way}"
+            reason = f"{how_of(case, rule, arrival.theorem)} {axiom}: {way}"
             reason += why_judged(case, rule, arrival.theorem)
             yield case.finding(rule, arrival.theorem, reason, axiom, key_of(rule, axiom))
 
@@ -314,10 +316,19 @@ def taken_in(case: Case, rule: str) -> Iterator[Finding]:
             yield case.finding(rule, labels[0], reason, allow="allow.mathboxes")
 
 
-def how_of(case: Case, theorem: str, how: str) -> str:
-    """In words, how a theorem came to rest on something."""
-    is_out = case.arrivals.has_entered(theorem)
-    return "came out of a mathbox, and in the main part it newly rests on" if is_out else how
+def how_of(case: Case, rule: str, theorem: str) -> str:
+    """In words, how a theorem came to rest on something. What has a label of OLD isn't called new,
+    though its statement is: whoever reads that would look for a label that wasn't there."""
+    if case.arrivals.has_entered(theorem):
+        return "came out of a mathbox, and in the main part it newly rests on"
+    if rule == "newly":
+        return "newly rests on"
+    differ = case.comparison.theorems.changed.get(theorem)
+    if differ is None:
+        return "a new theorem that rests on"
+    if differ in SAME_THEOREM:
+        return f"{differ} than in the base, and it rests on"
+    return "says something else than in the base, and rests on"
 
 
 def why_judged(case: Case, rule: str, theorem: str) -> str:

@@ -88,6 +88,16 @@ def revisions(objects: Objects, within: Range, path: str) -> list[Revision]:
     raise NoAnswer(f"{shown(path)}: had more than {MOST_NAMES} names before")
 
 
+def place_before(objects: Objects, revision: Revision) -> tuple[str, str] | None:
+    """Where the file is to be looked for before a revision: in its first parent, at the path that
+    it had there. None where it has no parent, or the clone lacks it."""
+    renamed = name_before(objects, revision)
+    if renamed is not None:
+        return renamed
+    parent = first_parent(objects, revision.commit)
+    return None if parent is None else (parent, revision.path)
+
+
 def walked(objects: Objects, within: Range, path: str) -> list[Revision]:
     """The revisions that changed what has this path, the newest first."""
     limits = [within.new] if within.old is None else [within.new, f"^{within.old}"]

@@ -27,6 +27,7 @@ from query.proofs.replay import (
     Replay,
     Rest,
     Rule,
+    Step,
     TooLong,
     proof_before,
     rest_behind,
@@ -143,7 +144,8 @@ class Known:
                 code, found = at_step(replay, begun, begun.cited, apart)
         except TooLong:
             return replace(begun, is_too_long=True)
-        found = replace(found, last=tuple(replay.last))
+        steps = {each.number: each for each in (*found.last, *replay.last)}
+        found = replace(found, last=tuple(steps[number] for number in sorted(steps)))
         rest = self.rests[number]
         rest = rest._replace(labels=proof.labels_of(rule, rest.labels))
         if found.clash is not None:
@@ -172,7 +174,9 @@ def of_number(proof: Proof, theorem: Rule) -> Explanation | None:
 def at_end(replay: Replay, theorem: Rule) -> tuple[str, Explanation]:
     """What is wrong at the end of a proof, with its code; "" where nothing is."""
     if len(replay.stack) != 1:
-        return "E37", of_stack(Explanation(), replay)
+        last = replay.stack[-LAST_ENTRIES:]
+        steps = tuple(Step(each.step, each.label, each.formula) for each in last)
+        return "E37", of_stack(Explanation(last=steps, says=theorem.formula), replay)
     proved = replay.stack[0].formula
     code = "E38" if proved != theorem.formula else ""
     return code, Explanation(proved=proved, says=theorem.formula)

@@ -177,12 +177,13 @@ def counted(count: int, one: str, several: str) -> str:
 @dataclass(frozen=True)
 class Explanation:
     """Why a proof is refused. `step` is the number of the faulty step and `cited` its label; None
-    where the end is faulty. `last` are the steps before that. `entries` is how many entries the
-    stack has, `pushed` which steps pushed the last ones, `taken` how many the step takes. `proved`
-    and `says` are what the proof proves and what its theorem says. `takes` has what stands for the
-    hypotheses of the step, and `others` the other faulty steps. `size` is how many symbols the
-    formula of the step has. `number` is that of a step that is too large. Where `is_too_long`, the
-    steps weren't carried out."""
+    where the end is faulty. `last` are the steps before that, and those of the last entries where
+    the stack has too many at the end. `entries` is how many entries the stack has, `pushed` which
+    steps pushed the last ones, `taken` how many the step takes. `proved` and `says` are what the
+    proof proves and what its theorem says. `takes` has what stands for the hypotheses of the step,
+    and `others` the other faulty steps. `size` is how many symbols the formula of the step has.
+    `number` is that of a step that is too large. Where `is_too_long`, the steps weren't carried
+    out."""
 
     step: int | None = None
     cited: str | None = None
@@ -214,6 +215,8 @@ class Explanation:
             one, other = both_in_words(self.proved, self.says, most)
             yield "the proof proves", one
             yield "the theorem says", other
+        elif self.says is not None:
+            yield "the theorem says", in_words(self.says, most)
         if self.size is not None:
             yield "its formula", f"has {self.size} symbols"
         if self.number is not None:

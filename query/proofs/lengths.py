@@ -44,13 +44,18 @@ def lengths(text: Text, graph: Graph) -> dict[str, Length]:
 
 def length_of(bare_text: bytes, one: Assertion) -> tuple[int, int]:
     """The steps and the bytes of a proof."""
-    match = PROOF.search(bare_text, one.place, one.end)
-    assert match is not None  # the program has read it
-    proof = match[1]
+    proof = proof_in(bare_text, one)
     if not proof.lstrip().startswith(b"("):
         return len(proof.split()), len(proof)
     letters = proof[proof.index(b")") + 1 :]
     return len(letters.translate(None, OTHERS)), len(proof)
+
+
+def proof_in(bare_text: bytes, one: Assertion) -> bytes:
+    """What stands between the `$=` and the `$.` of a theorem."""
+    match = PROOF.search(bare_text, one.place, one.end)
+    assert match is not None  # the program has read it
+    return match[1]
 
 
 def written_steps(text: Text, assertion: Assertion) -> int:

@@ -53,10 +53,11 @@ class Budget:
 
 
 class Entry(NamedTuple):
-    """An entry of the stack, with the number of the step that pushed it, from 1."""
+    """An entry of the stack, with the number of the step that pushed it, from 1, and its label."""
 
     formula: Formula
     step: int
+    label: str
 
 
 class Step(NamedTuple):
@@ -199,7 +200,7 @@ class Replay:
     def _push(self, label: str, formula: Formula) -> None:
         self.budget.take(COST_OF_STEP)
         self.count += 1
-        self.stack.append(Entry(formula, self.count))
+        self.stack.append(Entry(formula, self.count, label))
         self.last.append(Step(self.count, label, formula))
 
     def formula_of(self, label: str) -> Formula:

@@ -18,7 +18,7 @@ from functools import cached_property, partial
 
 from query.answers.errors import NoAnswer, shown
 from query.citations.marks import columns_of
-from query.git.history import Revision
+from query.git.history import Range, Revision, place_before
 from query.git.objects import Objects
 from query.git.reader import Reader
 from query.git.repository import short
@@ -57,7 +57,9 @@ class Figures:
     it, or with a label 1 where the theorem of this label does and otherwise 0. `line` is that of
     the assertion of this `label` in the section `statements`, None where there is none, and `proof`
     a sum of its proof. `axioms` are those of the typecode asked for on which the assertion rests,
-    None where others are asked for. With a `fault` there is nothing else to say."""
+    None where others are asked for. `other` is the line of another assertion, which had this label
+    in the revision before, where this one had another one. With a `fault` there is nothing else to
+    say."""
 
     theorems: int | None = None
     rest: dict[str, int] | None = None
@@ -66,6 +68,7 @@ class Figures:
     proof: str | None = None
     fault: str | None = None
     axioms: Sequence[str] | None = None
+    other: str | None = None
 
     def count(self, axiom: str) -> int | None:
         """How many theorems rest on an axiom; None where it isn't one."""
@@ -96,10 +99,18 @@ class Figures:
     @cached_property
     def assertion(self) -> Assertion | None:
         """The assertion of the label; None where it isn't there."""
-        if self.line is None:
-            return None
-        label, letter, place, end, said = self.line.split(":", 4)
-        return Assertion(label, letter, int(place), int(end), said, 0)
+        return None if self.line is None else assertion_of(self.line)
+
+    @property
+    def replaced(self) -> Assertion | None:
+        """The other assertion that had this label before; None where none had."""
+        return None if self.other is None else assertion_of(self.other)
+
+
+def assertion_of(line: str) -> Assertion:
+    """The assertion of a line of `statements`."""
+    label, letter, place, end, said = line.split(":", 4)
+    return Assertion(label, letter, int(place), int(end), said, 0)
 
 
 @dataclass(frozen=True)
@@ -143,14 +154,28 @@ def figures_of(
 def content_of(objects: Objects, revision: Revision) -> Content | Figures:
     """What a revision has as the file; or that it isn't judged."""
     objects.tops.setdefault(revision.commit, revision.tree)
+    return content_at(objects, revision.commit, revision.path)
+
+
+def contents_before(
+    objects: Objects, within: Range, found: Sequence[Revision]
+) -> list[Content | Figures]:
+    """What the file was before the first of these revisions of a range, or that it isn't judged.
+    Nothing where there is none before. Of all up to a revision, the first one brought the file."""
+    first = [] if within.old is None else found[:1]
+    places = [place_before(objects, revision) for revision in first]
+    return [content_at(objects, *place) for place in places if place is not None]
+
+
+def content_at(objects: Objects, commit: str, path: str) -> Content | Figures:
+    """What a commit has at a path; or that it isn't judged."""
     try:
-        entry = objects.entry(revision.commit, revision.path)
+        entry = objects.entry(commit, path)
     except NoAnswer as why:
         return Figures(fault=str(why))
     if entry is None:
-        return Figures(fault=f"there is no {shown(revision.path)}")
-    name = f"{short(revision.commit)}:{shown(revision.path)}"
-    return Content(entry.name, revision.path, name)
+        return Figures(fault=f"there is no {shown(path)}")
+    return Content(entry.name, path, f"{short(commit)}:{shown(path)}")
 
 
 def judged(objects: Objects, contents: Sequence[Content], question: Question) -> Iterator[Figures]:

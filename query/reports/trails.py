@@ -1,7 +1,8 @@
 """One assertion through the revisions of a file, also where its label changed.
 
-Where a revision lacks the label and the next one or the one before has it, the two texts are
-compared: the same statement may have another label there. Then it is followed by that one.
+Where a revision lacks the label and the next one or the one before has it, or it says something
+else there, the two texts are compared: the same statement may have another label there. Then it is
+followed by that one; and otherwise by its own, if that is there.
 """
 
 from __future__ import annotations
@@ -52,16 +53,19 @@ class Trail:
         self, numbers: Sequence[int], label: str, known: int | None
     ) -> tuple[Sequence[int], str]:
         """The same up to a revision in which the assertion has another label. Returns what is left
-        then, and that label. Where it came back it says what it said; otherwise the label is that
-        of another assertion, and this one is nowhere from there on."""
+        then, and that label. Where both texts have the label and no other one, it was changed.
+        Where it was away and came back it says what it said; otherwise the label is that of another
+        assertion, and this one is nowhere from there on."""
         is_away = is_over = False
         for place, figures in enumerate(self.told(numbers, label)):
             number = numbers[place]
             if known is not None and figures.says_other(self.figures[known]):
                 other = None if is_away else self.label_in(number, known, label)
                 if other not in (None, label):
+                    if number < known:
+                        self.figures[known] = replace(self.figures[known], other=figures.line)
                     return numbers[place:], str(other)
-                is_away = other is None
+                is_away = is_away or figures.line is None
                 is_over = is_over or (is_away and figures.line is not None)
             self.figures[number] = figures.without_assertion() if is_over else figures
             if self.figures[number].line is not None:

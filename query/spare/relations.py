@@ -5,16 +5,19 @@ Both stand in a small text of their own here, behind the syntax axioms by which 
 the one is proved by the other in one step or not, as `repeats` asks it of an earlier statement.
 
 Where neither is, an inference may lead from the one formula to the other. An inference has a single
-`$e`, which is a variable, so it can be applied to whatever is proved: that of set.mm which puts an
-antecedent before a formula is `a1i`. It has no pairs of distinct variables, so nothing hinders it.
-The statement that it is applied to is cited for its `$e` as for a theorem, in one step.
-Only what both databases say counts: by a statement that NEW alone has, a change that is wrong could
-be called harmless, since that statement may itself rest on what was changed.
+`$e`, and no pairs of distinct variables. Either the `$e` is a variable, so that it can be applied
+to whatever is proved: that of set.mm which puts an antecedent before a formula is `a1i`. Or what it
+gives is a variable, the only one, so that it can give whatever is proved: that of set.mm which
+takes an antecedent away is `mptru`, whose `$e` is `( T. -> ph )`. A statement behind an antecedent
+that is a variable of its own so is the same as without it. The statement that an inference is
+applied to is cited for its `$e` as for a theorem, in one step. Only what both databases say counts:
+by a statement that NEW alone has, a change that is wrong could be called harmless, since that
+statement may itself rest on what was changed.
 """
 
 from __future__ import annotations
 
-from collections.abc import Iterable, Iterator, Sequence
+from collections.abc import Container, Iterable, Iterator, Sequence
 from dataclasses import replace
 
 from query.citations.bits import joined
@@ -128,21 +131,28 @@ def inferences_among(assertions: Iterable[Assertion], typecode: str) -> Iterator
                 yield one
 
 
-def inference_of(one: Assertion) -> tuple[tuple[Item, ...], tuple[str, ...]] | None:
-    """What is the same for inferences that differ in names alone: the formula with numbers for the
-    variables, of which the `$e` is the first, and their typecodes. None for what is no inference,
-    where it is known that there is one `$e`."""
+def inference_of(one: Assertion) -> tuple[tuple[Item, ...], int, tuple[str, ...]] | None:
+    """What is the same for inferences that differ in names alone: the symbols of the `$e` and those
+    of the formula with numbers for the variables, how many the first ones are, and the typecodes of
+    the variables. None for what is no inference, where it is known that there is one `$e`."""
     frame = one.frame()
     floating = [each.formula.split(" ") for each in frame.hypotheses() if each.kind == "f"]
     typecodes = {variable: typecode for typecode, variable in floating}
     ((proved, *given),) = (each.formula.split(" ") for each in frame.essential())
     _, *symbols = one.formula.split(" ")
-    is_one_variable = len(given) == 1 and given[0] in typecodes and given[0] in symbols
-    if frame.disjoint or proved != one.typecode or not is_one_variable:
+    is_of_all = is_variable(given, typecodes) and given[0] in symbols
+    gives_all = is_variable(symbols, typecodes) and {*typecodes} == {*symbols}
+    if frame.disjoint or proved != one.typecode or not (is_of_all or gives_all):
         return None
-    numbers = {variable: number for number, variable in enumerate(dict.fromkeys(given + symbols))}
-    items: Iterator[Item] = (numbers[e] if e in typecodes else e for e in symbols)
-    return tuple(items), tuple(typecodes.get(each, "") for each in numbers)
+    both = [*given, *symbols]
+    numbers = {variable: number for number, variable in enumerate(dict.fromkeys(both))}
+    items: Iterator[Item] = (numbers[e] if e in typecodes else e for e in both)
+    return tuple(items), len(given), tuple(typecodes.get(each, "") for each in numbers)
+
+
+def is_variable(symbols: Sequence[str], variables: Container[str]) -> bool:
+    """Whether these symbols are a variable alone."""
+    return len(symbols) == 1 and symbols[0] in variables
 
 
 def read_once(syntax: Iterable[Assertion], typecode: str) -> Iterator[Assertion]:

@@ -174,6 +174,7 @@ class Check:
     def fault(self) -> Fault | None:
         """The first fault."""
         made: list[str] = []
+        pushed: list[int] = []
         first: Fault | None = None
         for count, label in enumerate(self.steps(), 1):
             if label.startswith("@"):
@@ -191,15 +192,22 @@ class Check:
                 if fault is not None and fault.code != "E36":
                     return first
             made.append(self.stack[-1])
+            pushed[len(self.stack) - 1 :] = [count]
             self.told.append(f"{count} {label} {self.stack[-1]}")
         if first is not None:
             first.unseen = None
             return first
         if len(self.stack) > 1:
-            return Fault("E37", entries=len(self.stack), steps=self.told[-5:])
+            return self.left_over(pushed)
         proved, wanted = self.stack[0], self.frame.formula
         same = proved == wanted
         return None if same else Fault("E38", proved=proved, wanted=wanted, steps=self.told[-5:])
+
+    def left_over(self, pushed: list[int]) -> Fault:
+        """The fault of a stack with several entries, which these steps pushed."""
+        last = {*pushed[-5:], *range(len(self.told), max(0, len(self.told) - 5), -1)}
+        steps = [self.told[number - 1] for number in sorted(last)]
+        return Fault("E37", entries=len(pushed), wanted=self.frame.formula, steps=steps)
 
     def wrong_steps(self) -> list[str]:
         """Each step with a hypothesis that what stands there doesn't fit, with its label and that

@@ -26,6 +26,12 @@ free $p |- ( p -> ( p -> p ) ) $= wp wp ax-1 $.
 ADDED = "new $p |- ( p -> ( q -> p ) ) $= wp wq ax1 $.\n"
 WATCH = 'watch = ["ax-ac2"]\n'
 FREED = ("wp ax-ac2 $.", "wp wp ax-1 $.")
+TAKEN = (
+    "free $p |- ( p -> ( p -> p ) ) $= wp wp ax-1 $.\n",
+    "freelem $p |- ( p -> ( p -> p ) ) $= wp wp ax-1 $.\n"
+    "${ free.1 $e |- ( 2 + 2 ) = 4 $. free $p |- ( p -> ( p -> p ) ) $= wp freelem $. $}\n",
+)
+"""Gives the label of a theorem to a weaker one, and the theorem another label."""
 
 
 class Repositories(World):

@@ -21,10 +21,13 @@ from pathlib import Path
 from unittest import mock
 
 from query.comparisons.changes import Comparison, side_by_side
+from query.gate.config import Config
+from query.gate.rules import Case, axioms as changed_axioms
 from query.program.refusals import Refused
 from query.reports.choice import Options
 from query.reports.database import Database
 from query.tests import old_changes
+from query.tests.replay import frames
 from query.tests.world import DATABASES, TOP, World, built_program
 from tests.shared.samples import LARGER, SMALLER
 
@@ -53,7 +56,8 @@ Known = dict[str, object]
 
 def told(comparison: Comparison | old_changes.Comparison) -> Known:
     """What is known of two databases. What only one of both statements of a theorem rests on that
-    was changed counted as gained or lost before, and stands apart now."""
+    was changed counted as gained or lost before, and stands apart now. A label of both with another
+    statement may have counted as new, gone, or only as renamed before, and is changed now."""
     axioms, theorems = comparison.axioms, comparison.theorems
     chosen, chosen_before = (side.dependence.axioms for side in (comparison.new, comparison.old))
     gained = {each: found for each in chosen if (found := comparison.gained(each))}
@@ -61,14 +65,20 @@ def told(comparison: Comparison | old_changes.Comparison) -> Known:
     apart = {}
     if isinstance(comparison, Comparison):
         apart = {label: comparison.shift(label, label) for label in comparison.restated}
+        changed = [*axioms.changed, *theorems.changed]
+        new, gone = [*axioms.new, *theorems.new], [*axioms.gone, *theorems.gone]
     else:
         apart = {label: (taken(gained, label), taken(lost, label)) for label in theorems.changed}
+        changed = [*restated(comparison, "a"), *(labels := restated(comparison, "p"))]
+        apart |= {e: shift(comparison, e) for e in labels if e not in theorems.changed}
+        new = [each for each in (*axioms.new, *theorems.new) if each not in changed]
+        gone = [each for each in (*axioms.gone, *theorems.gone) if each not in changed]
     return {
         "to_old": comparison.to_old,
         "renamed": axioms.renamed | theorems.renamed,
-        "changed": [*axioms.changed, *theorems.changed],
-        "new": [*axioms.new, *theorems.new],
-        "gone": [*axioms.gone, *theorems.gone],
+        "changed": changed,
+        "new": new,
+        "gone": gone,
         "gained": gained,
         "lost": lost,
         "apart": {
@@ -78,6 +88,25 @@ def told(comparison: Comparison | old_changes.Comparison) -> Known:
         },
         "moved": comparison.moved,
     }
+
+
+def restated(comparison: old_changes.Comparison, kind: str) -> list[str]:
+    """The labels of both with another statement, of which NEW has one of this kind."""
+    before = comparison.old.text.by_label
+    return [
+        one.label
+        for one in old_changes.of_kind(comparison.new.text.assertions, kind)
+        if one.label in before and not old_changes.is_same_statement(before[one.label], one)
+    ]
+
+
+def shift(comparison: old_changes.Comparison, label: str) -> tuple[list[str], list[str]]:
+    """The axioms on which only one of both statements of a label rests, by two reports."""
+    old, new = comparison.old.dependence, comparison.new.dependence
+    if label not in old.rows or label not in new.rows:
+        return [], []
+    moves = old_changes.Moves(old, new, comparison.to_old)
+    return moves.difference(old.bits(old.rows[label]), new.bits(new.rows[label]))
 
 
 def taken(shifts: dict[str, list[str]], theorem: str) -> list[str]:
@@ -130,14 +159,87 @@ def by_chance(folder: Path, seed: int, count: int) -> Iterator[tuple[str, Known,
         yield f"pair {number} of seed {seed}, {options}", *both(folder, old, new, options)
 
 
-class Agreement(World):
-    """The same is known in both ways."""
+def said_by(text: str) -> dict[str, tuple[bool, object]]:
+    """For each label of a text whether it is a theorem's, and what it says: its formula, its
+    mandatory hypotheses in order, and its pairs of distinct variables."""
+    found: dict[str, tuple[bool, object]] = {}
+    for one in frames(text):
+        given = tuple((says, bool(name)) for _, says, name, _ in one.mandatory)
+        apart = {pair for pair in one.apart if pair <= one.variables and len(pair) == 2}
+        found[one.label] = bool(one.words), (one.formula, given, frozenset(apart))
+    return found
+
+
+class Pairs(World):
+    """Pairs of databases that the program tells apart."""
 
     def setUp(self) -> None:
         super().setUp()
         patch = mock.patch.dict(os.environ, {"MMDEPEND": built_program()})
         patch.start()
         self.addCleanup(patch.stop)
+
+
+class ByText(Pairs):
+    """A label of both texts with another statement was changed, whatever was renamed; by the texts
+    alone."""
+
+    def test_pairs_made_by_chance(self) -> None:
+        chance = random.Random(21)
+        seen: Counter[str] = Counter()
+        for number, (old, new) in enumerate(pairs_by_chance(chance, PAIRS)):
+            new = further(chance, further(chance, new))
+            paths = [str(self.folder / self.write(*e)) for e in (("a.mm", old), ("b.mm", new))]
+            first, second = (
+                Database.opened(path, replace(ALL, open=True), False) for path in paths
+            )
+            try:
+                comparison = side_by_side(first, second)
+            except Refused:
+                continue
+            self.check(comparison, said_by(old), said_by(new), number)
+            for pairing in (comparison.axioms, comparison.theorems):
+                seen.update(renamed=len(pairing.changed.keys() & pairing.renamed.keys()))
+                seen.update(taken=len(pairing.changed.keys() & pairing.now.keys()))
+                seen.update(plain=sum(not pairing.is_another(e) for e in pairing.changed))
+            seen.update(crossed=len(comparison.crossed))
+        self.assertGreater(min(seen.values()), 2, seen)
+
+    def check(
+        self,
+        comparison: Comparison,
+        old: dict[str, tuple[bool, object]],
+        new: dict[str, tuple[bool, object]],
+        number: int,
+    ) -> None:
+        """Checks what is told of labels, and that each axiom is found that isn't as it was."""
+        for is_theorem, pairing in ((False, comparison.axioms), (True, comparison.theorems)):
+            here = [label for label, (is_so, _) in new.items() if is_so == is_theorem]
+            wanted = [each for each in here if each in old and old[each][1] != new[each][1]]
+            self.assertEqual([*pairing.changed], wanted, number)
+            for one, other, labels in ((new, old, pairing.new), (old, new, pairing.gone)):
+                for label in labels:
+                    known = other.get(label)
+                    self.assertTrue(known is None or known == (not is_theorem, one[label][1]))
+            others = {*pairing.new, *pairing.changed, *pairing.renamed}
+            self.assertEqual(others, {each for each in here if new[each] != old.get(each)}, number)
+        reasons: dict[str, list[str]] = {}
+        for each in changed_axioms(Case(comparison, Config())):
+            reasons.setdefault(each.label, []).append(each.reason)
+        named = {label for label, (is_so, _) in (*old.items(), *new.items()) if not is_so}
+        others = {label for label in named if old.get(label) != new.get(label)}
+        self.assertEqual({*reasons}, others, number)
+        for label, found in reasons.items():
+            is_changed = old.get(label, (True,))[0] == new.get(label, (True,))[0] is False
+            starts = ["a changed axiom: "] if is_changed else []
+            if label in comparison.axioms.renamed:
+                starts.append(f"a new label of the axiom {comparison.axioms.renamed[label]}: ")
+            for reason, start in zip(found, starts or [""], strict=True):
+                self.assertTrue(reason.startswith(start), (number, found))
+
+
+class Agreement(Pairs):
+    """The same is known in both ways."""
 
     def test_pairs_made_by_chance(self) -> None:
         seen: Counter[str] = Counter()

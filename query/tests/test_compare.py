@@ -5,6 +5,7 @@ import os
 import random
 import re
 from collections import Counter
+from collections.abc import Callable
 from itertools import permutations, product
 from unittest import mock
 
@@ -17,6 +18,7 @@ from query.comparisons.pairing import (
     statement_of,
 )
 from query.tests import replay
+from query.tests.repositories import BASE, TAKEN, Repositories, changed
 from query.tests.world import SMALL, World, asked, built_program, database_text
 from query.texts.assertions import Assertion
 from tests.shared.generations import Generation, Part, generation, next_generation
@@ -472,6 +474,292 @@ class Restated(World):
             self.assertEqual(old.replace("-> p )", "-> q )", 1), new)
             self.assertLessEqual(len(old), most + 6)
             self.assertGreater(len(old), most - 6)
+
+
+def swapped(text: str, one: str, other: str) -> str:
+    """A text with two words in the places of each other."""
+    words = {one: other, other: one}
+    return re.sub(r"\S+", lambda word: words.get(word[0], word[0]), text)
+
+
+OF_AC, OF_ONE = "|- ( p -> ( p -> p ) )", "|- ( p -> ( q -> p ) )"
+WEAKER = f"$e |- ( 2 + 2 ) = 4 $. {OF_AC}"
+
+
+SAYING = re.compile(
+    r"^(?:\$\{ \S+ \$e (.*?) \$\. )?(\S+) \$([ap]) (.*?) (?:\$= .*? )?\$\.", re.MULTILINE
+)
+"""A line of the databases below: its hypothesis, its label, its keyword and its formula."""
+
+
+class OnlyChanged(World):
+    """`--changed`, over pairs of databases made by chance, against what their lines say."""
+
+    HEAD = Restated.HEAD.replace("$c |-", "$c |- x0 x1 x2").replace(" $. w", " $.\nw")
+    LABELS = "w0 w1 w2 a1 a2 df-1 df-2 t1 t2 t3".split()
+    CHOICES: dict[tuple[str, ...], Callable[[str], bool]] = {
+        (): lambda label: True,
+        ("--all",): lambda label: True,
+        ("--only", "|-"): lambda label: label[0] != "w",
+        ("--only", "wff"): lambda label: label[0] == "w",
+        ("--axioms", "a,w"): lambda label: label[0] in "aw",
+        ("--ignore-definitions",): lambda label: label[0] != "d",
+    }
+    """Options, each with the labels that are those of axioms by it, where they are axioms."""
+
+    def line(self, chance: random.Random, label: str) -> str:
+        """An assertion, by chance."""
+        one, other, given = (chance.choice("pq") for _ in range(3))
+        is_axiom = chance.random() < 0.6
+        said, proof = f"( {one} -> {other} )", f"w{one} w{other} wi"
+        if label.startswith("w"):
+            axiom = f"{label} $a wff x{label[1]} {chance.choice((one, said))} $."
+            return axiom if is_axiom else f"{label} $p wff {said} $= {proof} $."
+        keyword, end = ("$a", "$.") if is_axiom else ("$p", f"$= {proof} all $.")
+        line = f"{label} {keyword} |- {said} {end}"
+        return line if chance.random() < 0.6 else f"${{ {label}.1 $e |- {given} $. {line} $}}"
+
+    def pair(self, seed: int) -> list[str]:
+        """A database, and what became of it. Either may lack some labels."""
+        chance = random.Random(seed)
+        old = {label: self.line(chance, label) for label in self.LABELS}
+        stays = {label: chance.random() < 0.5 for label in self.LABELS}
+        new = {each: old[each] if stays[each] else self.line(chance, each) for each in old}
+        sides = ([line for line in lines.values() if chance.random() < 0.9] for lines in (old, new))
+        return [self.HEAD + "".join(f"{line}\n" for line in lines) for lines in sides]
+
+    def wanted(self, texts: list[str], is_chosen: Callable[[str], bool]) -> list[Row]:
+        """What has to be told, by the lines of both texts: theorems first."""
+        before = {found[2]: found for found in SAYING.finditer(texts[0])}
+        rows: dict[str, list[Row]] = {"theorem": [], "axiom": []}
+        for found in SAYING.finditer(texts[1]):
+            was, kind = before.get(found[2]), "theorem" if found[3] == "p" else "axiom"
+            if was is None or (was[1], was[4]) == (found[1], found[4]):
+                continue
+            if kind == "theorem" or is_chosen(found[2]):
+                row = {"kind": kind, "label": found[2], "old": was[4], "new": found[4]}
+                rows[kind].append(row)
+        return [*rows["theorem"], *rows["axiom"]]
+
+    def rows(self, *words: str) -> list[Row]:
+        """The rows of an answer that say what was changed. Of a statement its formula."""
+        done = self.query("compare", "old.mm", "new.mm", "--format=json", *words)
+        why = "mmquery: old.mm and new.mm don't differ in this"
+        self.assertEqual(done.status, 0, done)
+        self.assertIn(why if not done.rows() else "", done.err)
+        names = ("kind", "label", "old", "new")
+        rows = [row for row in done.rows() if row["change"] == "changed"]
+        if "--changed" in words:
+            self.assertEqual(rows, done.rows())
+        found = [{name: str(row[name]) for name in names} for row in rows]
+        return [{name: said.rpartition("$. ")[2] for name, said in row.items()} for row in found]
+
+    def test_by_chance(self) -> None:
+        """Both statements of each such label. The whole answer says the same of them, as far as it
+        tells of their axioms."""
+        kinds: Counter[tuple[str, bool]] = Counter()
+        for seed in range(20):
+            texts = self.pair(seed)
+            for name, text in zip(("old.mm", "new.mm"), texts):
+                self.write(name, text)
+            for words, is_chosen in self.CHOICES.items():
+                wanted = self.wanted(texts, is_chosen)
+                self.assertEqual(self.rows("--changed", *words), wanted, (seed, words))
+                kinds.update((row["kind"], row["new"].startswith("wff")) for row in wanted)
+            for words, is_chosen in [*self.CHOICES.items()][1:3]:
+                self.assertEqual(self.rows(*words), self.wanted(texts, is_chosen), (seed, words))
+        self.assertEqual(len(kinds), 4)
+        self.assertGreater(min(kinds.values()), 10)
+
+    def test_what_a_person_is_shown(self) -> None:
+        """Columns that have nothing for what was changed are left out."""
+        old = self.HEAD + "w0 $a wff x0 p $.\n"
+        self.write("old.mm", old + "gone $a |- x1 $.\n")
+        self.write("new.mm", old.replace("x0 p", "x0 ( p -> q )") + "new $a |- x2 $.\n")
+        lines = self.answers("compare", "old.mm", "new.mm", "--changed")
+        table = [line.split() for line in lines[:2]]
+        self.assertEqual(table, ["change kind label".split(), "changed axiom w0".split()])
+        self.assertEqual(lines[4:], ["  was  wff x0 p", "  is   wff x0 ( p -> q )"])
+        done = self.query("compare", "old.mm", "new.mm", "--changed", "--format=tsv")
+        self.assertEqual(done.lines()[0].split("\t"), [*COLUMNS])
+
+    def test_axioms_that_are_named(self) -> None:
+        """These, and the theorems of which only one statement rests on one of them."""
+        old, new = "a{} $a |- ( p -> q ) $.\n", "a{} $a |- ( q -> q ) $.\n"
+        was, now = "t{} $p |- ( p -> q ) $= wp wq wi {} $.\n", "t{} $p |- ( q -> q ) $= {} $.\n"
+        sides = (
+            (old, was.format(1, "all") + was.format(2, "all")),
+            (new, now.format(1, "wq a1") + now.format(2, "wq wq wi all")),
+        )
+        for name, (axiom, theorems) in zip(("old.mm", "new.mm"), sides):
+            self.write(name, self.HEAD + axiom.format(1) + axiom.format(2) + theorems)
+        for words, labels in (((), "t1 t2 a1 a2"), (("a1",), "t1 a1"), (("a2",), "a2")):
+            told = [row["label"] for row in self.rows("--changed", *words)]
+            self.assertEqual(told, labels.split(), words)
+
+
+class LabelsOfBoth(Repositories):
+    """A label that both databases have with another statement is changed, whatever was renamed."""
+
+    def setUp(self) -> None:
+        super().setUp()
+        self.write("mmdepend.toml", "")
+        self.write("old.mm", BASE)
+
+    def compared(self, *words: str) -> list[tuple[object, ...]]:
+        """The rows of `compare` about what became of labels."""
+        done = self.query("compare", "old.mm", "new.mm", "--format=json", *words)
+        self.assertEqual(done.status, 0, done)
+        names = ("change", "kind", "label", "was", "old", "new", "how")
+        rows = [tuple(row[name] for name in names) for row in done.rows()]
+        return [row for row in rows if row[0] not in ("gained", "lost")]
+
+    def test_a_label_that_was_given_away(self) -> None:
+        self.write("new.mm", changed(BASE, TAKEN))
+        self.assertEqual(
+            self.compared(),
+            [
+                ("renamed", "theorem", "freelem", "free", None, None, None),
+                ("changed", "theorem", "free", None, OF_AC, WEAKER, "weaker"),
+            ],
+        )
+        how = "free: the hypotheses changed; the new one is weaker"
+        both = [f"  was  {OF_AC}", f"  is   {WEAKER}"]
+        for command in ("compare", "review"):
+            self.assertEqual(self.answers(command, "old.mm", "new.mm")[-3:], [how, *both])
+        rows = self.query("review", "old.mm", "new.mm", "--format=json").rows()
+        names = ("theorem", "status", "was", "axioms", "old", "new", "how")
+        found = [tuple(row[name] for name in names) for row in rows]
+        self.assertEqual(
+            found,
+            [
+                ("freelem", ["renamed"], "free", None, None, None, None),
+                ("free", ["changed", "proof"], None, 1, OF_AC, WEAKER, "weaker"),
+            ],
+        )
+        lines = self.answers("review", "old.mm", "new.mm", "--format=markdown")
+        self.assertIn("**Theorems**: 1 renamed, 1 changed, 1 with another proof.", lines)
+        self.assertEqual(lines[-2:], [f"  - was `{OF_AC}`", f"  - is `{WEAKER}`"])
+        self.assertIn("- `free`: the hypotheses changed; the new one is weaker", lines)
+        self.assertIn("| `freelem` | renamed from `free` |  |  |  | +3 |", lines)
+
+    def test_the_same_backwards(self) -> None:
+        """The old statement of a label is gone, and the new one had another label."""
+        self.write("new.mm", BASE)
+        self.write("old.mm", changed(BASE, TAKEN))
+        self.assertEqual(
+            self.compared(),
+            [
+                ("renamed", "theorem", "free", "freelem", None, None, None),
+                ("changed", "theorem", "free", None, WEAKER, OF_AC, "stronger"),
+            ],
+        )
+        (row,) = self.query("review", "old.mm", "new.mm", "--format=json").rows()
+        told = (row["theorem"], row["status"], row["was"], row["old"], row["new"])
+        self.assertEqual(told, ("free", ["renamed", "changed"], "freelem", WEAKER, OF_AC))
+        lines = self.answers("review", "old.mm", "new.mm", "--format=markdown")
+        self.assertIn("| `free` | renamed from `freelem`, changed | 1 |  |  | -3 |", lines)
+
+    def test_labels_that_are_swapped(self) -> None:
+        self.write("new.mm", swapped(BASE, "axac3", "ax1"))
+        rows = self.compared()
+        self.assertEqual([row[:4] for row in rows], self.both_ways("theorem", "axac3", "ax1"))
+        self.assertEqual([row[4:6] for row in rows[2:]], [(OF_AC, OF_ONE), (OF_ONE, OF_AC)])
+        told = self.query("review", "old.mm", "new.mm", "--format=json").rows()
+        for row, label, was, new in zip(told, ("axac3", "ax1"), ("ax1", "axac3"), (OF_ONE, OF_AC)):
+            self.assertEqual((row["theorem"], row["was"], row["new"]), (label, was, new))
+            self.assertRegex(str(row["status"]), "renamed', 'changed")
+
+    def both_ways(self, kind: str, one: str, other: str) -> list[tuple[object, ...]]:
+        """The rows of two labels that are swapped."""
+        pairs = ((one, other), (other, one))
+        renamed = [("renamed", kind, label, was) for label, was in pairs]
+        return [*renamed, *(("changed", kind, label, None) for label, _ in pairs)]
+
+    def test_axioms_that_are_swapped(self) -> None:
+        """Each has its rows once, and the gate tells of each that it was changed, besides what it
+        told of the labels."""
+        self.write("new.mm", swapped(BASE, "ax-1", "ax-ac2"))
+        wanted = self.both_ways("axiom", "ax-ac2", "ax-1")
+        for words in ((), ("ax-1",), ("ax-ac2",), ("ax-1", "ax-ac2")):
+            rows = [row[:4] for row in self.compared(*words)]
+            self.assertEqual(sorted(rows, key=str), sorted(wanted, key=str), words)
+        done = self.query("gate", "old.mm", "new.mm", "--format=json")
+        reasons = [(each["label"], each["reason"]) for each in json.loads(done.out)["findings"]]
+        starts = []
+        for label, was, old, new in (
+            ("ax-ac2", "ax-1", OF_AC, OF_ONE),
+            ("ax-1", "ax-ac2", OF_ONE, OF_AC),
+        ):
+            starts.append((label, f"a changed axiom: the formula changed, from {old} to {new}"))
+            starts.append((label, f"a new label of the axiom {was}: {new}"))
+        told = [(label, reason.partition(";")[0]) for label, reason in reasons]
+        self.assertEqual(told, starts)
+        self.write("mmdepend.toml", '[allow]\naxioms = ["ax-1"]\n')
+        done = self.query("gate", "old.mm", "new.mm", "--format=json")
+        labels = [each["label"] for each in json.loads(done.out)["findings"]]
+        self.assertEqual(labels, ["ax-ac2"] * 2)
+
+    def test_an_axiom_whose_label_was_given_away(self) -> None:
+        """What rests on either is the same as before."""
+        new = BASE.replace("ax-ac2", "ax-ac3") + f"ax-ac2 $a {OF_ONE} $.\n"
+        self.write("new.mm", new)
+        renamed = ("renamed", "axiom", "ax-ac3", "ax-ac2")
+        told = ("changed", "axiom", "ax-ac2", None)
+        self.assertEqual([row[:4] for row in self.compared()], [renamed, told])
+        lines = self.query("gate", "old.mm", "new.mm").lines()[:-1]
+        differ = f"the formula changed, from {OF_AC} to {OF_ONE}"
+        wanted = [
+            f"a new label of the axiom ax-ac2: {OF_AC}; 2 theorems rest on it [axioms]",
+            f"a changed axiom: {differ} [axioms]",
+        ]
+        self.assertEqual([line.split(": ", 2)[2] for line in lines], wanted)
+
+    def test_axioms_and_theorems(self) -> None:
+        """A label that says something else as one of the other kind is changed too; and one that
+        says the same is gone as the one, and new as the other."""
+        theorem = "2p2e4 $p |- ( 2 + 2 ) = 4 $= df-4 $."
+        self.write("new.mm", changed(BASE, (theorem, f"2p2e4 $a {OF_AC} $.")))
+        differ = "it is an axiom now, and was a theorem; the formula changed"
+        both = ("|- ( 2 + 2 ) = 4", OF_AC)
+        self.assertEqual(self.compared(), [("changed", "axiom", "2p2e4", None, *both, None)])
+        (row,) = self.query("review", "old.mm", "new.mm", "--format=json").rows()
+        told = (row["theorem"], row["status"], row["differ"], row["old"], row["new"])
+        self.assertEqual(told, ("2p2e4", ["changed"], differ, *both))
+        comment = self.query("review", "old.mm", "new.mm", "--format=markdown").out
+        self.assertEqual(comment.count(differ), 1, comment)
+        (line,) = self.query("gate", "old.mm", "new.mm").lines()[:-1]
+        self.assertIn(f"2p2e4: an axiom now, and a theorem before: {OF_AC} [axioms]", line)
+        new = changed(BASE, (theorem, f"2p2e4 $p {OF_ONE} $= wp wq ax-1 $."))
+        self.write("new.mm", new)
+        self.write("old.mm", changed(BASE, (theorem, "2p2e4 $a |- ( 2 + 2 ) = 4 $.")))
+        for words in ((), ("2p2e4",)):
+            (theorem_now,) = self.compared(*words)
+            wanted_now = ("changed", "theorem", "2p2e4", None, both[0], OF_ONE, None)
+            self.assertEqual(theorem_now, wanted_now)
+        (row,) = self.query("review", "old.mm", "new.mm", "--format=json").rows()
+        self.assertEqual((row["status"], row["axioms"]), (["changed"], 1))
+        self.write("new.mm", BASE)
+        rows = [row[:4] for row in self.compared()]
+        wanted = [("new", "theorem", "2p2e4", None), ("gone", "axiom", "2p2e4", None)]
+        self.assertEqual(rows, wanted)
+
+    def test_what_a_renamed_one_gained(self) -> None:
+        """It is compared with its old label, also where its own was another one's."""
+        new = swapped(BASE, "zorn", "2p2e4")
+        proof = "zorn $p |- ( 2 + 2 ) = 4 $= "
+        axiom = "ax-x $a |- ( 2 + 2 ) = 4 $.\n"
+        self.write("new.mm", changed(new, (f"{proof}df-4 $.", f"{axiom}{proof}ax-x $.")))
+        rows = self.query("compare", "old.mm", "new.mm", "--format=json").rows()
+        told = [(row["change"], row["label"], row["axiom"]) for row in rows]
+        shifts = [each for each in told if each[0] in ("gained", "lost")]
+        wanted = [("lost", "2p2e4", "df-4"), ("gained", "zorn", "ax-x")]
+        self.assertEqual(shifts, wanted)
+        self.assertEqual(sum(each[0] == "changed" for each in told), 2)
+        self.write("mmdepend.toml", 'watch = ["ax-x", "df-4"]\n[allow]\naxioms = ["ax-x"]\n')
+        lines = self.query("gate", "old.mm", "new.mm", "--all").lines()
+        findings = [line.partition(": ")[2] for line in lines if line.startswith("new.mm:")]
+        self.assertEqual(findings, ["zorn: newly rests on ax-x: it cites ax-x [newly]"])
 
 
 def in_order(match: re.Match[str]) -> str:

@@ -10,7 +10,7 @@ from collections import Counter
 from collections.abc import Sequence
 
 from query.definitions.clauses import Clauses
-from query.definitions.soundness import CONDITIONS, Definitions, rests_by
+from query.definitions.soundness import CONDITIONS, NO_EQUALITY, Definitions, rests_by
 from query.formulas.ambiguity import Comparison, GivenUp, ambiguity
 from query.formulas.grammar import STEPS, STEPS_OF_SYMBOL, FormulaReader, Grammar, NotRead, Tree
 from query.reports.choice import Options
@@ -48,12 +48,48 @@ FOO = "df-foo $a |- Foo = { x | E. y y e. x } $. $}"
 SS = "df-ss $a |- ( A C_ B <-> A. x ( x e. A -> x e. B ) ) $. $}"
 # What is changed, the definition that is found, whether it is unsound or not judged, and why.
 BROKEN = (
-    ((FOO, "df-foo $a |- ( Foo = A -> ph ) $. $}"), "df-foo", "no", "neither ( LEFT <-> RIGHT )"),
-    ((FOO, "df-foo $a |- A = Foo $. $}"), "df-foo", "no", "its left side is a variable"),
-    ((FOO, "${ h $e |- ph $. " + FOO + " $}"), "df-foo", "no", "it has a $e"),
+    (
+        (FOO, "df-foo $a |- ( Foo = A -> ph ) $. $}"),
+        "df-foo",
+        "not judged",
+        "neither ( LEFT <-> RIGHT )",
+    ),
+    ((FOO, "df-foo $a |- A = Foo $. $}"), "df-foo", "no", "so anything equals the right one"),
+    (
+        (FOO, "df-foo $a |- A = { x | x e. A } $. $}"),
+        "df-foo",
+        "not judged",
+        "its left side is a variable",
+    ),
+    ((FOO, "${ h $e |- ph $. " + FOO + " $}"), "df-foo", "not judged", "it has a $e"),
     ((SS, SS.replace("A C_ B <->", "A C_ A <->")), "df-ss", "no", "has a variable twice"),
-    ((SS, SS.replace("A C_ B <->", "A C_ { x | ph } <->")), "df-ss", "no", "more than a form"),
-    ((SS, SS.replace("A C_ B <->", "A C_ y <->")), "df-ss", "no", "more than a form"),
+    (
+        (SS, SS.replace("A C_ B <->", "A C_ { x | ph } <->")),
+        "df-ss",
+        "no",
+        "so it leaves out cases",
+    ),
+    ((SS, SS.replace("A C_ B <->", "A C_ y <->")), "df-ss", "no", "so it leaves out cases"),
+    # What is used before, or comes first within a form, may be what it defines.
+    (
+        (FOO, "df-foo $a |- ( x e. Foo <-> E. y y e. x ) $. $}"),
+        "df-foo",
+        "not judged",
+        "its left side has more than a form and variables",
+    ),
+    (
+        (SS, f"use $a |- A C_ A $. {SS.replace('A C_ B <->', 'A C_ y <->')}"),
+        "df-ss",
+        "not judged",
+        "its left side has more than a form and variables",
+    ),
+    # An equality may be defined by another one, but not by itself.
+    (
+        (FOO, "df-foo $a |- ( ( ph <-> ps ) <-> E. y y = y ) $. $}"),
+        "df-foo",
+        "no",
+        "the form wb, by which it is an equation",
+    ),
     ((FOO, FOO.replace("y e. x", "y e. Foo")), "df-foo", "no", "right side has the form cfoo"),
     (("${ $d x y $.\ndf-foo", "use $a |- Foo = A $. ${ $d x y $.\ndf-foo"), "df-foo", "no", "use"),
     (
@@ -66,7 +102,7 @@ BROKEN = (
         "use before it has the form cfoo",
     ),
     (("last $a", "df-foo2 $a |- Foo = { x | T. } $. last $a"), "df-foo2", "no", "df-foo before it"),
-    (("${ $d x A $.", "${ $d A B $. $d x A $."), "df-ss", "no", "A and B of its left side"),
+    (("${ $d x A $.", "${ $d A B $. $d x A $."), "df-ss", "no", "a $d keeps A and B of its left"),
     (("$d x A $. ", ""), "df-ss", "no", "no $d says that the dummy x is distinct from A"),
     (("${ $d x y $.\ndf-foo", "${ \ndf-foo"), "df-foo", "no", "x is distinct from y"),
     ((FOO, "df-foo $a |- Foo = { x | ph } $. $}"), "df-foo", "no", "no $d says that the dummy x"),
@@ -76,6 +112,7 @@ BROKEN = (
         "not judged",
         "the dummy ph is no setvar",
     ),
+    ((FOO, "df-foo $a |- Foo = A $. $}"), "df-foo", "no", "its right side is just the dummy A, so"),
     ((FOO, FOO.replace("E. y y e. x", "y e. x")), "df-foo", "no", "nothing binds the dummy y"),
     ((FOO, "df-foo $a |- Foo = x $. $}"), "df-foo", "no", "nothing binds the dummy x"),
     (
@@ -121,6 +158,33 @@ class Rules(World):
             text = changed(LOGIC, (right, other), ("E. y y e. x", "[ x / y ] y e. x"))
             self.assertEqual(self.sound(text)["df-foo"][0], sound, other)
 
+    def test_a_dummy_alone(self) -> None:
+        """A right side that is one equals anything; that is right where all is equal anyway."""
+        foo = (FOO, "df-foo $a |- Foo = A $. $}")
+        found = self.sound(changed(LOGIC, foo))
+        self.assertEqual(found["df-foo"][0], "no")
+        found = self.sound(changed(LOGIC, foo, ("cfoo $a", "all $a |- A = B $.\ncfoo $a")))
+        self.assertEqual(found["df-foo"], ("yes", "None"))
+
+    def test_status(self) -> None:
+        """Of definitions that are named each has to be sound, or on trust."""
+        free = FOO.replace("E. y y e. x", "( E. y y e. x -> y e. x )")
+        for change, sound, statuses in (
+            ((FOO, FOO), "yes", (0, 0)),
+            ((FOO, free), "not judged", (0, 1)),
+            ((FOO, FOO.replace("E. y y e. x", "y e. x")), "no", (1, 1)),
+        ):
+            self.assertEqual(self.sound(changed(LOGIC, change))["df-foo"][0], sound)
+            for words, status in zip(((), ("df-foo",)), statuses):
+                self.assertEqual(self.query("definitions", "db.mm", *words).status, status, words)
+            for words in (("df-ss", "df-foo"), ("df-foo", "--format=github")):
+                done = self.query("definitions", "db.mm", *words)
+                self.assertEqual(done.status, statuses[1], words)
+            for words in (("df-ss",), ("--like=df-ss",), ("df-foo", "df-ss", "--not=df-foo")):
+                self.assertEqual(self.query("definitions", "db.mm", *words).status, 0, words)
+            done = self.query("definitions", "db.mm", "df-foo", "--trust=df-foo")
+            self.assertEqual(done.status, 0)
+
     def test_formulas_that_are_not_read(self) -> None:
         """One axiom without a tree, or a grammar with two, and nothing is judged."""
         for more, why in (
@@ -136,10 +200,46 @@ class Rules(World):
             self.assertEqual({sound for sound, _ in found.values()}, {"not judged"}, more)
             self.assertTrue(any(why in told for _, told in found.values()), (found, why))
 
+    def test_an_equality_that_another_one_defines(self) -> None:
+        """It may be right where no axiom before has it."""
+        same = "$d x A $. $d x B $. df-eq $a |- ( A = B <-> A. x ( x e. A <-> x e. B ) ) $."
+        for text, sound, why in (
+            (SYMBOLS + f"${{ {same} $}}\n" + AXIOMS, "not judged", "the form of an equality, wceq"),
+            (SYMBOLS + AXIOMS + f"${{ {same} $}}\n", "no", "before it has the form wceq"),
+        ):
+            found = self.sound(text)["df-eq"]
+            self.assertEqual(found[0], sound)
+            self.assertIn(why, found[1])
+
+    def test_nothing_is_judged(self) -> None:
+        """Standard error says so of a whole database, and the status is as before."""
+        free = FOO.replace("E. y y e. x", "( E. y y e. x -> y e. x )")
+        without = SYMBOLS.replace("<->", "<=>").replace("wceq $a wff A = B", "wceq $a wff A == B")
+        without = without.replace("|- wff", "== |- wff")
+        none = "no definition could be judged: 0 sound, 0 not, {} not judged"
+        foo = "$c Foo $. cfoo $a class Foo $. df-foo $a |- Foo == Foo $.\n"
+        more = "$c Baz $. cbaz $a class Baz $. df-baz $a |- Baz == Baz $.\n"
+        for text, words, said, status in (
+            (without + foo, (), none.format(1), 0),
+            (without + foo, ("df-foo",), none.format(1), 1),
+            (without + foo + more, (), none.format(2), 0),
+            (without + foo + more, ("df-foo",), "0 sound, 0 not, 1 not judged", 1),
+            (without + foo + more, ("--trust=df-baz",), f"{none.format(1)}; on trust: df-baz", 0),
+            (changed(LOGIC, (FOO, free)), (), "5 sound, 0 not, 1 not judged", 0),
+            (changed(LOGIC, (FOO, free)), ("df-foo",), "0 sound, 0 not, 1 not judged", 1),
+        ):
+            self.write("db.mm", text)
+            done = self.query("definitions", "db.mm", *words)
+            self.assertEqual((done.err, done.status), (f"mmquery: db.mm: {said}\n", status))
+        told = self.sound(without + foo)["df-foo"]
+        self.assertEqual(told, ("not judged", NO_EQUALITY))
+        self.assertIn("`definitions --equality` names the syntax axiom", NO_EQUALITY)
+
     def test_other_databases(self) -> None:
         self.write("db.mm", "$c |- a b $.\ndf-a $a |- a b $.\n")
         ((sound, why),) = self.sound("$c |- a b $.\ndf-a $a |- a b $.\n").values()
         self.assertEqual(sound, "not judged")
+        self.assertIn("df-a can't be read", why)
         self.assertEqual(
             self.answers("definitions", self.write("no.mm", "$c |- a $. x $a |- a $.")), []
         )
@@ -149,12 +249,25 @@ class Rules(World):
         rows = self.answers("definitions", "db.mm", "--like", "df-s*", "--format", "tsv")
         self.assertEqual([row.split("\t")[0] for row in rows[1:]], ["df-sb", "df-ss"])
 
+    def test_no_equality_of_formulas(self) -> None:
+        """Equalities of terms alone say of no formula that it is a theorem, so that is the reason,
+        also where the definition has a dummy that a theorem would justify."""
+        text = "$c |- wff term = T o $. $v a b $. ta $f term a $. tb $f term b $.\n"
+        text += "weq $a wff a = b $. tt $a term T $. to $a term o a $. id $a |- a = a $.\n"
+        text += "df-t $a |- T = o a $.\n"
+        self.write("db.mm", text)
+        (row,) = self.query("definitions", "db.mm", "--equality=weq", "--format=json").rows()
+        self.assertEqual((row["sound"], row["condition"]), ("not judged", "equality"))
+        self.assertIn("there is no equality of typecode wff", row["why_not"])
+        basis = self.answers("definitions", "db.mm", "--equality=weq", "--basis")
+        self.assertNotIn("no theorem", "".join(basis))
+
     def test_open_theorems(self) -> None:
         """A theorem that is left open says nothing."""
         text = LOGIC.replace("biid $a |- ( ph <-> ph )", "biid $p |- ( ph <-> ph ) $= ?")
         self.write("open.mm", text)
         rows = self.query("definitions", "open.mm", "--open", "--format=json").rows()
-        self.assertEqual(rows[0]["why_not"], "no theorem says that wb is reflexive")
+        self.assertEqual(rows[0]["why_not"], "no theorem is found which says that wb is reflexive")
         through = text + "bi $p |- ( ph <-> ph ) $= wph biid $.\n"
         self.write("open.mm", through)
         rows = self.query("definitions", "open.mm", "--open", "--format=json").rows()
@@ -236,7 +349,8 @@ class Chosen(World):
         wrong = LOGIC.replace("df-ex $a |- ( E. x ph <->", "df-ex $a |- ( E. x ph ->")
         self.write("db.mm", wrong)
         done = self.query("definitions", "db.mm", "--format=json")
-        self.assertEqual(done.status, 1)
+        self.assertEqual(done.status, 0)
+        self.assertEqual(self.query("definitions", "db.mm", "df-ex").status, 1)
         self.assertEqual({row["condition"] for row in done.rows()}, {None, "form", "rests"})
         done = self.query("definitions", "db.mm", "--trust=df-ex", "--format=json")
         self.assertEqual(done.status, 0)
@@ -268,14 +382,24 @@ class Chosen(World):
         renames = "the variable that wal binds may have another name"
         self.assertEqual(found["theorem", "cbvalv"], renames)
 
+    @unittest.skipUnless((OF_DEBIAN / "ql.mm").exists(), "ql.mm isn't installed")
+    def test_rules_that_define(self) -> None:
+        """Two of them say in ql.mm what a form is, and nothing is wrong with that."""
+        path = str(OF_DEBIAN / "ql.mm")
+        labels = ("df-le1", "df-le2", "df-c1", "df-c2")
+        done = self.query("definitions", path, *labels, "--equality=wb", "--format=json")
+        self.assertEqual(done.status, 1)
+        told = {(row["sound"], row["condition"]) for row in done.rows()}
+        self.assertEqual(told, {("not judged", "form")})
+
     def test_annotations(self) -> None:
         self.write("db.mm", changed(LOGIC, BROKEN[0][0], (SS, SS.replace("C_ B <->", "C_ A <->"))))
         done = self.query("definitions", "db.mm", "--format=github")
         first, second = done.lines()
-        pattern = r"::error file=db.mm,line=\d+,title=mmquery definitions \({}\)::{}: no: .*"
-        self.assertRegex(first, pattern.format("left", "df-ss"))
-        self.assertRegex(second, pattern.format("form", "df-foo"))
-        self.assertRegex(done.err, r"db.mm: 4 sound, 2 not, 0 not judged")
+        pattern = r"::{} file=db.mm,line=\d+,title=mmquery definitions \({}\)::{}: .*"
+        self.assertRegex(first, pattern.format("error", "left", "df-ss: no"))
+        self.assertRegex(second, pattern.format("warning", "form", "df-foo: not judged"))
+        self.assertRegex(done.err, r"db.mm: 4 sound, 1 not, 1 not judged")
 
 
 @needs_program
@@ -321,8 +445,7 @@ class RealDatabases(unittest.TestCase):
         for name, count in (("ql.mm", 28), ("hol.mm", 11)):
             counts, left, is_unambiguous = self.found(name)
             self.assertEqual(counts, {"not judged": count})
-            why = "there is no equality, ( wff <-> wff ) or class = class"
-            self.assertEqual(set(left.values()), {why})
+            self.assertEqual(set(left.values()), {NO_EQUALITY})
             self.assertTrue(is_unambiguous)
 
 

@@ -429,6 +429,29 @@ class Equivalents(World):
         done = self.query("equivalents", "db.mm", "ax")
         self.assertEqual(done.err, f"mmquery: db.mm: the others give ax, by be{ADVICE}\n")
 
+    def test_only_restatements(self) -> None:
+        """Where no link leads to the axiom, standard error says so, on one line with the rest."""
+        text = BASE + "ax $a |- Q x $. ta $p |- Q y $= fy ax $.\n"
+        only = "only restatements are found: no link leads to ax from another statement, and proofs"
+        only += " that are more than chains of links aren't looked for"
+        proved = "be $a |- A. y Q y $.\n"
+        for more, said in (
+            ("", only),
+            (proved, f"the others give ax, by be; --without be gives more of them up; {only}"),
+            ("la $a |- ( Foo -> Q x ) $.\n", None),
+        ):
+            self.write("db.mm", text + more)
+            done = self.query("equivalents", "db.mm", "ax")
+            self.assertEqual(done.err, f"mmquery: db.mm: {said}\n" if said else "")
+        self.write("db.mm", BASE + "ax $a |- Q x $.\n")
+        self.assertNotIn("restatements", self.query("equivalents", "db.mm", "ax").err)
+        both = "be $a |- Bar $. ${ r1 $e |- Q x $. r2 $e |- Bar $. ra $a |- Foo $. $}\n"
+        both += "${ s1 $e |- Foo $. s2 $e |- Bar $. sa $a |- Q y $. $}\n"
+        through = "tn $p |- Foo $= fx fx ax be ra $. tz $p |- Q y $= fy tn be sa $.\n"
+        self.write("db.mm", BASE + "ax $a |- Q x $.\n" + both + through)
+        said = f"{only}; a proof of tn without ax would prove ax"
+        self.assertEqual(self.query("equivalents", "db.mm", "ax").err, f"mmquery: db.mm: {said}\n")
+
     def test_proved_in_any_order(self) -> None:
         """A statement that another theorem states, which rests on the axiom, is proved whichever of
         both comes first."""

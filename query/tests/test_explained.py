@@ -214,6 +214,7 @@ the stack         has 0 of the 2 entries that it takes
         "x $p |- ( p -> p ) $= wp wp wp wp wp wp wp $.",
         """
 the stack         has 7 entries, the last of the steps 3, 4, 5, 6, 7
+the theorem says  |- ( p -> p )
 the last steps    3  wp  wff p
                   4  wp  wff p
                   5  wp  wff p
@@ -231,6 +232,19 @@ the last steps    1  wp  wff p
                   3  wi  wff ( p -> p )
                   4  @3  wff ( p -> p )
                   5  wi  wff ( ( p -> p ) -> ( p -> p ) )
+""",
+    ),
+    (
+        "x $p wff p $= wp wp wp wp wp wi wi wi $.",
+        """
+the stack         has 2 entries, of the steps 1, 8
+the theorem says  wff p
+the last steps    1  wp  wff p
+                  4  wp  wff p
+                  5  wp  wff p
+                  6  wi  wff ( p -> p )
+                  7  wi  wff ( p -> ( p -> p ) )
+                  8  wi  wff ( p -> ( p -> ( p -> p ) ) )
 """,
     ),
 )

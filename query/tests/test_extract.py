@@ -3,6 +3,7 @@
 import random
 import re
 import unittest
+from collections import Counter
 
 from query.tests.world import DATABASES, World, database_text, invented
 from query.texts.text import Text
@@ -87,13 +88,21 @@ def said(text: Text) -> dict[str, list[list[str]]]:
     return found
 
 
+def told(name: str, part: str) -> str:
+    """What standard error says of a part: how many theorems and axioms it has."""
+    kinds = Counter(one.kind for one in database_text(part.encode()).assertions)
+    numbers = [f"{kinds[kind]} {what}" for kind, what in (("p", "theorem"), ("a", "axiom"))]
+    words = [each if each.startswith("1 ") else f"{each}s" for each in numbers]
+    return f"mmquery: {name}: the part has {' and '.join(words)}\n"
+
+
 class Small(World):
     """Small databases."""
 
     def part(self, name: str, *words: str) -> str:
         """What is written."""
         done = self.query("extract", name, *words)
-        self.assertEqual((done.status, done.err), (0, ""), done)
+        self.assertEqual((done.status, done.err), (0, told(name, done.out)), done)
         return done.out
 
     def test_by_hand(self) -> None:
@@ -105,6 +114,12 @@ class Small(World):
         words = sorted(alone.split())
         self.assertEqual(sorted(self.part("some.mm", "open").split()), words)
         self.assertEqual(self.part("some.mm", "ABBECF"), "$c |- # $.\nABBECF $a |- # $.\n")
+        for label, said in (
+            ("ABBECF", "0 theorems and 1 axiom"),
+            ("open", "1 theorem and 0 axioms"),
+        ):
+            err = self.query("extract", "some.mm", label).err
+            self.assertEqual(err, f"mmquery: some.mm: the part has {said}\n")
 
     def test_what_has_no_answer(self) -> None:
         self.write("some.mm", DATABASE)
@@ -164,7 +179,8 @@ class OfDebian(World):
             theorems = [one.label for one in text.assertions if one.letter == "p"]
             for label in chance.sample(theorems, min(SAMPLE, len(theorems))):
                 done = self.query("extract", str(DATABASES / name), label)
-                self.assertEqual((done.status, done.err), (0, ""), f"{name} {label}")
+                said_of = told(str(DATABASES / name), done.out)
+                self.assertEqual((done.status, done.err), (0, said_of), f"{name} {label}")
                 whole, found = said(text), said(database_text(done.out.encode()))
                 self.assertEqual(found, {each: whole[each] for each in found}, f"{name} {label}")
                 self.assertIn(label, found)

@@ -5,13 +5,14 @@ import os
 import re
 import unittest
 
-from query.tests.repositories import ADDED, BASE, FREED, WATCH, Repositories, changed
+from query.tests.repositories import ADDED, BASE, FREED, TAKEN, WATCH, Repositories, changed
 from query.tests.world import DATABASES, TOP
 
 CHEAT = (
     "2p2e4 $p |- ( 2 + 2 ) = 4 $= df-4",
     "ax-cheat $a |- ( 2 + 2 ) = 4 $.\n2p2e4 $p |- ( 2 + 2 ) = 4 $= ax-cheat",
 )
+OTHER_NAMES = "only the names of variables are other than in the base, and it"
 BOXES = (
     BASE
     + "".join(
@@ -65,8 +66,36 @@ class Bases(Repositories):
         done = self.query("gate", "--base", "main", "db.mm")
         self.assertEqual(done.status, 0)
         commit = self.git("rev-parse", "HEAD")[:12]
-        self.assertEqual(done.lines()[-1], f"passed: db.mm compared with main, {commit}")
+        said = f"passed: db.mm ({commit}) compared with main, {commit}"
+        self.assertEqual(done.lines()[-1], said)
         self.assertIn("note: the base has this commit already", done.out)
+
+    def test_what_is_judged_is_told(self) -> None:
+        """The commit, whether what isn't committed counts, and that no axiom is watched."""
+        base = self.git("rev-parse", "HEAD")[:12]
+        self.branch()
+        self.commit(BASE + ADDED)
+        commit = self.git("rev-parse", "HEAD")[:12]
+        for word in ("db.mm", "HEAD:db.mm"):
+            (line,) = self.answers("gate", "--base", "main", word)
+            self.assertEqual(line, f"passed: {word} ({commit}) compared with main, {base}")
+        (self.folder / "db.mm").write_text(BASE + ADDED + ADDED.replace("new", "newer"))
+        judged = f"{commit}, with what isn't committed"
+        told = json.loads(self.query("gate", "--base", "main", "db.mm", "--format=json").out)
+        self.assertEqual((told["judged"], told["watched"]), (judged, ["ax-ac2"]))
+        told = self.query("gate", "--base", "main", "db.mm", "--format=markdown").out
+        self.assertIn(f"`db.mm` ({judged}) compared with `main, {base}`\n", told)
+        (line,) = self.answers("gate", "--base", "main", "HEAD:db.mm")
+        self.assertEqual(line, f"passed: HEAD:db.mm ({commit}) compared with main, {base}")
+        told = json.loads(self.query("gate", "db.mm", "db.mm", "--format=json").out)
+        self.assertEqual(told["judged"], None)
+        self.git("checkout", "--quiet", "--force", "main")
+        self.ask("")
+        said = f"db.mm ({self.git('rev-parse', 'HEAD')[:12]}) compared with main, "
+        told = self.answers("gate", "--base", "main", "db.mm")[-1]
+        self.assertRegex(told, re.escape(f"passed: {said}") + "[0-9a-f]{12}; no axiom is watched")
+        told = json.loads(self.query("gate", "--base", "main", "db.mm", "--format=json").out)
+        self.assertEqual(told["watched"], [])
 
     def test_the_base_freed_a_theorem(self) -> None:
         self.branch()
@@ -371,6 +400,37 @@ class Rules(Repositories):
         self.write("mmdepend.toml", WATCH + '[allow.newly]\nax-ac2 = ["free"]\n')
         self.breaks("newly", both, part, before=BASE + user, allow="")
 
+    def test_a_label_that_another_statement_had(self) -> None:
+        """What has it now is judged as new, and isn't called so, in any form. Where it says the
+        same but for the names of variables, these are told to be other."""
+        was, stays = TAKEN[0], TAKEN[1].partition("\n")[0] + "\n"
+        for now, how in (
+            (
+                TAKEN[1].replace("wp freelem", "wp axac3"),
+                "says something else than in the base, and",
+            ),
+            (stays + "free $p |- ( q -> ( q -> q ) ) $= wq axac3 $.\n", OTHER_NAMES),
+        ):
+            text = changed(BASE, (was, now))
+            reason = f"{how} rests on ax-ac2: it cites axac3"
+            self.breaks(
+                "new", text, f": free: {reason} [", allow='[allow.new]\nax-ac2 = ["free"]\n'
+            )
+            self.write("new.mm", text)
+            for words in ((), ("--all",)):
+                done = self.query("gate", "db.mm", "new.mm", "--format=json", *words)
+                (found,) = json.loads(done.out)["findings"]
+                told = [found[name] for name in ("rule", "label", "axiom", "reason", "allow")]
+                self.assertEqual(told, ["new", "free", "ax-ac2", reason, "allow.new.ax-ac2"])
+            for form, part in (
+                ("log", f": free: {reason} [new]"),
+                ("github", f"::free: {reason}; allow.new.ax-ac2 of mmdepend.toml would allow it"),
+                ("markdown", f"| `free` | `ax-ac2` | `{reason}` |"),
+            ):
+                done = self.query("gate", "db.mm", "new.mm", f"--format={form}")
+                self.assertIn(part, done.out)
+                self.assertNotIn("new theorem", done.out)
+
     def test_renames(self) -> None:
         self.assertEqual(self.gate_of(BASE.replace("zorn", "zorn1"), status=0), [])
         self.assertEqual(
@@ -644,11 +704,19 @@ class Folded(Repositories):
     def test_labels_that_are_swapped(self) -> None:
         swapped = {"ax1": "axac3", "axac3": "ax1"}
         new = re.sub(r"\S+", lambda word: swapped.get(word[0], word[0]), BASE)
-        self.assertEqual(self.found(BASE, new, WATCH + "[rules]\naxioms = false\n"), [])
+        note = "note: 2 theorems say something else than in the base: axac3, ax1; "
+        note += "`review` shows both statements"
+        self.assertEqual(self.found(BASE, new, WATCH + "[rules]\naxioms = false\n"), [note])
         swapped = {"ax-1": "ax-ac2", "ax-ac2": "ax-1"}
         new = re.sub(r"\S+", lambda word: swapped.get(word[0], word[0]), BASE)
-        rules = [line.rpartition(" ")[2] for line in self.found(BASE, new, WATCH)]
-        self.assertEqual(rules, ["[axioms]"] * 2 + ["[watched]"])
+        lines = self.found(BASE, new, WATCH)
+        rules = [line.rpartition(" ")[2] for line in lines]
+        self.assertEqual(rules, ["[axioms]"] * 4 + ["[watched]"])
+        told = [line.partition(":")[0] + ":" + line.split(":")[1][:10] for line in lines[:4]]
+        both = ["{}: a changed", "{}: a new lab"]
+        self.assertEqual(
+            told, [each.format(label) for label in ("ax-ac2", "ax-1") for each in both]
+        )
 
     def test_a_theorem_that_became_an_axiom(self) -> None:
         old = "axac3 $p |- ( p -> ( p -> p ) ) $= wp ax-ac2 $."
@@ -738,14 +806,18 @@ class Outputs(Repositories):
         done = self.query("gate", "--base", "main", "--format", "github", f"sub/{name}")
         self.assertEqual(done.status, 1)
         commands = [line for line in done.lines() if line.startswith("::")]
-        self.assertEqual(len(commands), 2)
+        self.assertEqual(len(commands), 3)
+        note = (
+            "1 theorem says something else than in the base: 2p2e4; `review` shows both statements"
+        )
+        self.assertEqual(commands[2], f"::notice::{note}")
         self.assertEqual(
             commands[0],
             "::error file=sub/a%2Cb%3A 100%25.mm,line=6,title=mmquery gate (axioms)"
             "::df-4: a changed axiom: the formula changed, from |- ( 2 + 2 ) = 4 to"
             r" |- :\x3aerror:\x3a%250A,:<b>; allow.axioms of mmdepend.toml would allow it",
         )
-        self.assertEqual(done.lines()[2][:24], "mmquery gate: 2 findings")
+        self.assertEqual(done.lines()[3][:24], "mmquery gate: 2 findings")
 
     def test_a_file_that_looks_like_a_command(self) -> None:
         name = "::error::x\n::error::y.mm"
@@ -770,6 +842,92 @@ class Outputs(Repositories):
         text = (self.folder / "summary.md").read_text()
         self.assertTrue(text.startswith("before\n### mmquery gate: 1 finding"))
         self.assertIn("| axioms | `db.mm:10` | `ax-cheat` |", text)
+
+
+class Changed(Repositories):
+    """A theorem that says something else breaks no rule, and a note tells of it."""
+
+    WEAK = ("zorn $p", "${ z $e |- 2 = 4 $. zorn $p")
+    ENDED = ("axac3 a1i $.", "axac3 a1i $. $}")
+
+    def told(self, old: str, new: str, form: str) -> str:
+        """The whole answer, which is `passed`."""
+        self.write("old.mm", old)
+        self.write("new.mm", new)
+        self.write("mmdepend.toml", "")
+        done = self.query("gate", "old.mm", "new.mm", f"--format={form}")
+        self.assertEqual((done.status, done.err), (0, ""), done)
+        return done.out
+
+    def notes(self, old: str, new: str) -> list[str]:
+        """The notes of an answer."""
+        notes = json.loads(self.told(old, new, "json"))["notes"]
+        self.assertIsInstance(notes, list)
+        return [str(note) for note in notes]
+
+    def test_all_forms(self) -> None:
+        said = (
+            "1 theorem says something else than in the base: zorn; `review` shows both statements"
+        )
+        new = changed(BASE, self.WEAK, self.ENDED)
+        for form, line in (
+            ("text", f"note: {said}\n"),
+            ("log", f"note: {said}\n"),
+            ("json", f'"notes": [\n  "{said}"\n ]\n'),
+            ("github", f"::notice::{said}\n"),
+            ("markdown", f"Note: ``{said}``\n"),
+        ):
+            self.assertEqual(self.told(BASE, new, form).count(line), 1, form)
+            self.assertNotIn("something else", self.told(BASE, BASE, form))
+        both = self.told(BASE, changed(BASE, self.WEAK, self.ENDED, TAKEN), "text")
+        self.assertIn("note: 2 theorems say something else than in the base: zorn, free; ", both)
+
+    def test_after_a_merge(self) -> None:
+        """Also where something is found, with `--all`, and in a summary."""
+        self.branch()
+        self.commit(changed(BASE, self.WEAK, self.ENDED, CHEAT))
+        words = ("gate", "--base", "main", "db.mm", "--all", "--summary", "summary.md")
+        done = self.query(*words)
+        said = (
+            "1 theorem says something else than in the base: zorn; `review` shows both statements"
+        )
+        self.assertEqual((done.status, done.lines()[1]), (1, f"note: {said}"))
+        self.assertIn(f"\nNote: ``{said}``\n", (self.folder / "summary.md").read_text())
+
+    def test_what_says_the_same(self) -> None:
+        """Other names of variables, another order of what needs none, another proof or label."""
+        names = ("ax1 $p |- ( p -> ( q -> p ) ) $= wp wq", "ax1 $p |- ( q -> ( p -> q ) ) $= wq wp")
+        for new in (
+            changed(BASE, names),
+            changed(BASE, FREED),
+            BASE.replace("zorn", "zorn1"),
+            BASE + ADDED,
+        ):
+            self.assertEqual(self.notes(BASE, new), [])
+        pair = "wp $f wff p $.\nwq $f wff q $.\n"
+        head = BASE.partition(pair)[0] + "any $a |- 2 $.\n"
+        one, other = ("wp $f wff p $. wq $f wff q $. ", "wq $f wff q $. wp $f wff p $. ")
+        proved = "${{ {}e $e |- ( p -> q ) $. d $e |- 2 $. t $p |- 2 $= d $. $}}\n"
+        self.assertEqual(self.notes(head + proved.format(one), head + proved.format(other)), [])
+
+    def test_many_and_long_ones(self) -> None:
+        """A few are named, and a long label is cut."""
+        labels = [f"t{number}" for number in range(6)] + ["t" * 3000]
+        for count in (1, 5, 6, 7):
+            chosen = labels[-count:]
+            old, new = (
+                BASE + "".join(f"{label} $p {says} $= {proof} $.\n" for label in chosen)
+                for says, proof in (
+                    ("|- ( 2 + 2 ) = 4", "df-4"),
+                    ("|- ( p -> ( q -> p ) )", "wp wq ax-1"),
+                )
+            )
+            (note,) = self.notes(old, new)
+            self.assertLess(len(note), 400)
+            cuts = [each if len(each) < 200 else each[:200] + " .." for each in chosen[:5]]
+            more = f" and {count - 5} more; " if count > 5 else "; "
+            self.assertIn(f": {', '.join(cuts)}{more}`review` shows", note)
+            self.assertIn("1 theorem says" if count == 1 else f"{count} theorems say", note)
 
 
 class Page(Repositories):

@@ -149,7 +149,8 @@ class Below(World):
         self.write("db.mm", text)
         for words, label in (("ZORN", "t0"), ("hilbert  SPACES", "t1"), ("complex", "t2")):
             self.assertEqual(self.answers("uncited", "db.mm", "--under", words), [label])
-        said = "several headers have in the title 'spaces': 0.2 'Hilbert spaces', 0.3 'Complex"
+        said = "several headers have in the title 'spaces': 0.2 'Hilbert spaces', 0.3 'Complex "
+        said += "Hilbert spaces'; give the number of one of them"
         self.refuses("uncited", "db.mm", "--under", "spaces", why=said)
         self.refuses("uncited", "db.mm", "--under", "7", why="has no header '7'")
         why = "has no header 'zorns lemna'; near it are 0.1 'Zorn's lemma'"

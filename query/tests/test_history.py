@@ -75,7 +75,8 @@ class Revisions(History):
         for number in range(5):
             within = f"main~{number + 1}..main~{number}"
             told = self.query("rests", "--all", f"main~{number}:db.mm", "l3").lines()
-            for row in self.rows("db.mm", within, *axioms, "--of", "l3") if told != ["l3"] else ():
+            rows = self.rows("db.mm", within, *axioms, "--of", "l3") if told != ["l3"] else []
+            for row in rows[-len(axioms) :]:  # before these stands what became of the statement
                 self.assertEqual((row["theorem"], row["rests"]), ("l3", row["axiom"] in told))
 
     def test_since_when(self) -> None:
@@ -247,6 +248,9 @@ class Revisions(History):
         done = self.query("history", "--format=json", *OF_AC)
         self.assertEqual([row["rest"] for row in done.rows()], [0])
         self.assertIn("the clone is shallow", done.err)
+        done = self.query("history", "--format=json", "db.mm", "HEAD", "--of", "zorn")
+        self.assertEqual([row["change"] for row in done.rows()], ["there"])
+        self.assertRegex(done.err, r"\A[^\n]*the clone is shallow[^\n]*\n\Z")
         self.folder = folder
 
     def test_a_bare_repository(self) -> None:
@@ -388,6 +392,14 @@ class Kept(History):
         self.assertEqual(self.answer_and_runs(*OF_AC, "--essential"), ([2, 0, 2], 3))
         self.assertEqual(self.answer_and_runs(*OF_AC, "--of", "zorn"), ([True, False, True], 3))
         self.assertEqual(self.answer_and_runs(*OF_AC, "--of", "zorn"), ([True, False, True], 0))
+
+    def test_what_is_before_a_range(self) -> None:
+        """It is one file more that is verified, where it is asked what became of a statement."""
+        self.commit(BASE + ADDED)
+        last = ("db.mm", "HEAD~1..", "ax-ac2")
+        self.assertEqual(self.answer_and_runs(*last, "--no-cache"), ([2], 1))
+        self.assertEqual(self.answer_and_runs(*last, "--of", "zorn"), ([True], 2))
+        self.assertEqual(self.answer_and_runs(*last, "--of", "zorn"), ([True], 0))
 
     def test_equal_files_are_judged_once(self) -> None:
         for text in (BASE, changed(BASE, FREED), BASE, BROKEN, BASE, BROKEN):

@@ -211,13 +211,18 @@ class TheTwelve(Hostile):
         text = changed(BASE, ("ax-ac2 $a", "wt $a wff 2 $.\nax-t $a |- 2 $.\nax-ac2 $a"))
         text = text.split("2p2e4 $p")[0]
         new = changed(text, ("wt $a wff 2 $.\nax-t $a |- 2 $.", "ax-t $a wff 2 $."))
-        for config in ("", 'typecode = "|-"\n'):
+        changed_axiom = "db.mm:9: ax-t: a changed axiom: the formula changed, from |- 2 to wff 2"
+        renamed_syntax = "db.mm:9: ax-t: a new label of the axiom wt: wff 2"
+        for config, found in (
+            ("", [changed_axiom, renamed_syntax]),
+            ('typecode = "|-"\n', [changed_axiom]),
+        ):
             self.asks(config, before=text)
             self.commit(changed(text, ("wt $a wff 2 $.\nax-t $a |- 2 $.", "wt $a wff 2 $.")))
             self.assertEqual(self.findings(), ["db.mm: ax-t: an axiom that is gone [axioms]"])
             self.commit(new)
             lines = [line for line in self.findings() if "ax-t: " in line]
-            self.assertEqual(len(lines), 1)
+            self.assertEqual(lines, [f"{each} [axioms]" for each in found])
             self.git("checkout", "--quiet", "main")
             self.git("branch", "--delete", "--force", "--quiet", "work")
 
@@ -1429,8 +1434,13 @@ class Honest(Hostile):
         self.asks('watch = ["ax-a", "ax-b", "ax-c"]\n', before=three)
         self.commit(circle)
         lines = self.findings()
-        self.assertEqual(len([line for line in lines if line.endswith("[axioms]")]), 3)
-        self.assertEqual(len([line for line in lines if line.endswith("[watched]")]), 3)
+        for words, rule in (
+            ("a changed axiom: ", "axioms"),
+            ("a new label of the axiom ", "axioms"),
+            ("", "watched"),
+        ):
+            found = [line for line in lines if words in line and line.endswith(f"[{rule}]")]
+            self.assertEqual(len(found), 3, (words, lines))
         self.commit(three + ADDED)
         self.assertEqual(self.findings(status=0), [])
 

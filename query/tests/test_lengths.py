@@ -6,10 +6,39 @@ import re
 import shutil
 import unittest
 from collections import Counter
+from pathlib import Path
 
 from query.tests.test_questions import all_chains
 from query.tests.world import DATABASES, SMALL, World, invented
 from tests.shared import metamath
+
+
+STEPS = "$c |- a $. ${ m1 $e |- a $. m2 $e |- a $. m $a |- a $. $} ax $a |- a $.\n"
+PARTS = """$c |- w $. $v p q $. wp $f w p $. wq $f w q $.
+${ i1 $e |- p $. i2 $e |- q $. and $a |- p $. $}
+${ a1 $e |- p $. pair $p |- p $= wp wp a1 a1 and $. $}
+${ b1 $e |- p $. twice $p |- p $= wp b1 pair $. $}
+${ c1 $e |- p $. marked $p |- p $= ( and ) AAAABBCZDC $. $}
+${ d1 $e |- p $. one $p |- p $= d1 $. $}
+${ e1 $e |- p $. e2 $e |- p $. e3 $e |- p $. first $p |- p $= e1 $. $}
+${ f1 $e |- p $. less $p |- p $= ( first and ) AAABBDZEEC $. $}
+${ g1 $e |- p $. again $p |- p $= wp g1 less $. $}
+"""
+PARTS_COUNTS = {
+    "pair": 5, "twice": 5, "marked": 8, "one": 1, "first": 1, "less": 3, "again": 3,
+}  # fmt: skip
+"""How many steps these have. A step of `first` counts for one less four, since it has so many
+hypotheses; two of the steps before it in `less` are none, since they repeat a marked one."""
+
+
+def written_out(chance: random.Random, theorems: list[str], depth: int) -> list[str]:
+    """A proof by chance, in which the hypothesis `HYP` stands once, as its first step."""
+    found = ["HYP"]
+    for _ in range(chance.randint(1, depth)):
+        found += [*(["ax"] if chance.random() < 0.5 else ["ax", "ax", "m"]), "m"]
+        if theorems:
+            found.append(chance.choice(theorems))
+    return found
 
 
 class Lengths(World):
@@ -73,6 +102,94 @@ class Lengths(World):
                 self.assertIn(f"actual proof has {row['steps']} steps", count)
                 (depth,) = re.findall(r"maximum path length is (\d+)", count)
                 self.assertEqual(row["depth"], int(depth), label)
+
+    def test_expanded(self) -> None:
+        """Against proofs that are written out, in which each hypothesis stands once."""
+        for seed in range(6):
+            chance = random.Random(seed)
+            text, proofs = STEPS, dict[str, list[str]]()
+            for number in range(12):
+                proof = written_out(chance, list(proofs), 4)
+                text += f"${{ h{number} $e |- a $. t{number} $p |- a $= "
+                text += " ".join(proof).replace("HYP", f"h{number}") + " $. $}\n"
+                proofs[f"t{number}"] = [
+                    step
+                    for each in proof
+                    for step in (proofs[each][1:] if each in proofs else [each])
+                ]
+            self.write("db.mm", text)
+            rows = self.query(
+                "proofs", "db.mm", "--by=expanded", "--most=99", "--format=json"
+            ).rows()
+            found = {str(row["theorem"]): row["expanded"] for row in rows}
+            self.assertEqual(found, {label: len(proof) for label, proof in proofs.items()})
+            counts = [int(str(row["expanded"])) for row in rows]
+            self.assertEqual(counts, sorted(counts, reverse=True))
+            rows = self.query("proofs", "db.mm", "t11", "t3", "--expanded", "--format=json").rows()
+            self.assertEqual([row["expanded"] for row in rows], [found["t3"], found["t11"]])
+
+    def test_expanded_by_hand(self) -> None:
+        """A hypothesis that is used twice, or never; marked steps; and open theorems."""
+        self.write("db.mm", PARTS)
+        rows = self.query("proofs", "db.mm", "--expanded", "--most=9", "--format=json").rows()
+        self.assertEqual({row["theorem"]: row["expanded"] for row in rows}, PARTS_COUNTS)
+        if shutil.which("metamath"):
+            said = self.said_by_metamath(self.folder / "db.mm", [*PARTS_COUNTS])
+            self.assertEqual(said, PARTS_COUNTS)
+        self.write("db.mm", SMALL + "todo $p |- p $= ? $. use $p |- p $= wp todo $.\n")
+        (row,) = self.query(
+            "proofs", "--open", "db.mm", "use", "--expanded", "--format=json"
+        ).rows()
+        self.assertEqual(row["expanded"], 2)
+
+    def test_expanded_is_long(self) -> None:
+        """Theorems that cite the one before twice; of too many digits it is told, and no more."""
+        count = 4000
+        text = "$c |- a $.\n${ m1 $e |- a $. m2 $e |- a $. m $a |- a $. $}\nax $a |- a $.\n"
+        text += "t0 $p |- a $= ax ax m $.\n"
+        text += "".join(f"t{n} $p |- a $= t{n - 1} t{n - 1} m $.\n" for n in range(1, count))
+        self.write("db.mm", text)
+        words = ("proofs", "db.mm", "--by=expanded", f"--most={count}", "--format=json")
+        found = {str(row["theorem"]): row["expanded"] for row in self.query(*words).rows()}
+        for number in range(count):
+            steps = 2 ** (number + 2) - 1
+            told = steps if steps < 10**1000 else "more than 1000 digits"
+            self.assertEqual(found[f"t{number}"], told)
+        lines = self.answers("proofs", "db.mm", "t9", f"t{count - 1}", "--expanded")
+        self.assertRegex(lines[1], r"t9 .* 2047$")
+        self.assertRegex(lines[2], r"more than 1000 digits$")
+        self.assertEqual(self.answers("proofs", "db.mm", "t9", "--format=tsv")[0].count("\t"), 5)
+
+    def said_by_metamath(self, path: Path, labels: list[str]) -> dict[str, int]:
+        """The expanded steps that metamath.exe counts, by a floating point number."""
+        commands = [f"show trace_back {label} /count_steps" for label in labels]
+        said = [" ".join(each.split()) for each in metamath.asked(path, commands)]
+        counts = [
+            re.findall(r"would have (-?[0-9]+)(?: =~ [^,]*)? steps if fully", each) for each in said
+        ]
+        return {label: int(count) for label, (count,) in zip(labels, counts)}
+
+    @unittest.skipUnless(shutil.which("metamath"), "there is no metamath.exe")
+    @unittest.skipUnless((DATABASES / "demo0.mm").exists(), "there are no databases")
+    def test_expanded_of_debian(self) -> None:
+        """What metamath.exe counts; of large numbers as near as it does."""
+        for name, labels in (
+            ("demo0.mm", ["th1"]),
+            ("ql.mm", ["lem3.1", "id", "wr2", "oa3-6lem", "mloa"]),
+            ("iset.mm", ["a1i", "syl", "pm2.01", "exbii", "sbf", "zorn", "addcom"]),
+            ("set.mm", ["2p2e4", "dummylink", "idi", "pm2.18", "stirling", "hlathil"]),
+        ):
+            path = DATABASES / name
+            asked = self.query("proofs", str(path), *labels, "--expanded", "--format=json")
+            if asked.status:
+                continue
+            told = {str(row["theorem"]): int(str(row["expanded"])) for row in asked.rows()}
+            for label, said in self.said_by_metamath(path, [*told]).items():
+                if abs(said) < 2**53:
+                    self.assertEqual(told[label], said, label)
+                self.assertAlmostEqual(told[label] / said, 1, 9, label)
+            if name == "set.mm":
+                self.assertEqual(told["2p2e4"], 23231431367629)
 
     def test_sets(self) -> None:
         for seed in range(8):

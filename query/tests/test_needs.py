@@ -5,6 +5,7 @@ import os
 import random
 import re
 import unittest
+import xml.etree.ElementTree as Xml
 from unittest import mock
 
 from query.tests.test_definitions import LOGIC
@@ -132,6 +133,67 @@ class Needed(World):
                 first = [row["above"] for row in rows if row["form"] == form]
                 self.assertEqual(first.count(False), 1, form)
         self.assertLessEqual(set(repeated), set(below))
+
+    def test_graph(self) -> None:
+        """The forms of `--as` have the arrows of the tree."""
+        arrows_of_all = 0
+        for seed in range(4):
+            text, right, said_by = chained(random.Random(seed))
+            self.write("db.mm", text)
+            names = {**PRIMITIVE, **{name: f"w{name}" for name in right}}
+            for label, said in said_by.items():
+                needed = by_symbols(right, said)
+                words = {label: said} | {f"w{name}": each for name, each in right.items()}
+                wanted = {
+                    (head, names[word])
+                    for head in (label, *needed)
+                    for word in words.get(head, "").split()
+                    if word in names
+                }
+                done = self.query("needs", "db.mm", label, "--as=edges")
+                found = [tuple(line.split(" ")) for line in done.lines()]
+                self.assertEqual({*found}, wanted)
+                self.assertEqual(len(found), len(wanted))
+                self.assertEqual("needs no form besides" in done.err, not wanted)
+                self.see_files(label, wanted, right)
+                arrows_of_all += len(wanted)
+        self.assertGreater(arrows_of_all, 50)
+
+    def see_files(self, label: str, wanted: set[tuple[str, str]], right: dict[str, str]) -> None:
+        """The same in DOT and as GraphML, which tell what is primitive."""
+        lines = self.answers("needs", "db.mm", label, "--as=dot")
+        self.assertEqual((lines[0], lines[-1]), (f'digraph "{label}" {{', "}"))
+        told = [re.fullmatch('  "(.*)" -> "(.*)";', line) for line in lines]
+        self.assertEqual({match.groups() for match in told if match}, wanted)
+        boxes = {line.split('"')[1] for line in lines if line.endswith("[shape=box];")}
+        primitive = {form for _, form in wanted if form[1:] not in right}
+        self.assertEqual(boxes, primitive)
+        space = "{http://graphml.graphdrawing.org/xmlns}"
+        tree = Xml.fromstring("\n".join(self.answers("needs", "db.mm", label, "--as=graphml")))
+        kinds = {node.get("id"): node[0].text for node in tree.iter(f"{space}node")}
+        others = {label, *(form for _, form in wanted)} - primitive
+        self.assertEqual(
+            kinds, dict.fromkeys(primitive, "primitive") | dict.fromkeys(others, "defined")
+        )
+        edges = {(each.get("source"), each.get("target")) for each in tree.iter(f"{space}edge")}
+        self.assertEqual(edges, wanted)
+
+    def test_graph_by_hand(self) -> None:
+        """Of a syntax axiom, of what has filters, and what is asked for beside it."""
+        self.write("db.mm", LOGIC)
+        self.assertEqual(self.answers("needs", "db.mm", "df-ex", "--as=edges"), [
+            "wtru wal", "wtru cv", "wtru wceq", "wex wi", "wex wal", "wex wtru", "df-ex wi",
+            "df-ex wb", "df-ex wal", "df-ex wtru", "df-ex wex",
+        ])  # fmt: skip
+        self.assertEqual(self.answers("needs", "db.mm", "wex", "--as=edges", "--like=w*"), [
+            "wtru wal", "wtru wceq", "wex wi", "wex wal", "wex wtru",
+        ])  # fmt: skip
+        self.assertEqual(
+            self.answers("needs", "db.mm", "wal", "--as=dot"), ['digraph "wal" {', '  "wal";', "}"]
+        )
+        for other in ("--tree", "--format=csv"):
+            self.refuses("needs", "db.mm", "df-ex", other, "--as=dot", why="not allowed with")
+        self.refuses("needs", "db.mm", "df-ex", "--as=svg", why="--as dot | dot -Tsvg")
 
     def test_by_hand(self) -> None:
         self.write("db.mm", LOGIC)

@@ -238,8 +238,9 @@ class Reviewed(World):
             f"$c F{n} $. f{n} $a class F{n} $. df-{n} $a |- F{n} = (/) $. " for n in range(70)
         )
         done = self.query("review", old, self.write("new.mm", BASE + many), "--format=markdown")
-        self.assertEqual(sum(line.startswith("- `df-") for line in done.lines()), 60)
-        self.assertIn("- 10 more definitions", done.lines())
+        told = done.lines()[: done.lines().index("**New statements**:")]
+        self.assertEqual(sum(line.startswith("- `df-") for line in told), 60)
+        self.assertIn("- 10 more definitions", told)
 
     def test_a_typecode_that_markdown_means(self) -> None:
         """It may be any symbol, and no word of the comment is a link or a mention by it."""
@@ -250,7 +251,8 @@ class Reviewed(World):
             lines = self.query(*words).lines()
             told = "- `df-foo` is called a definition, but isn't of typecode |- (condition `form`)"
             self.assertIn(told, lines)
-            self.assertFalse([line for line in lines if typecode in line], typecode)
+            said = [line for line in lines if typecode in line]
+            self.assertEqual(said, [f"- `df-foo`: `{typecode} Foo`"], "as code alone")
 
 
 class Brought(Repositories):

@@ -192,14 +192,15 @@ class Questions(World):
         lines = [shapes.theorem(*labels) for labels in (("k", "ax"), ("m", "k"), ("n", "m"))]
         self.write("db.mm", shapes.HEAD + "".join(lines))
         done = self.query("frees", "db.mm", "ax", "--keep=k", "--plan=1")
-        said = "free are then 2 of 3 that rest on ax, 1 of which is kept; m only says ax in another"
+        states = "{} states what ax states but for the variables, and --keep-wrappers"
+        said = f"free are then 2 of the 3 that rest on ax; 1 of these is kept; {states.format('m')}"
         self.assertIn(f"mmquery: db.mm: {said}", done.err)
         done = self.query("frees", "db.mm", "ax", "--keep=k", "--keep-wrappers", "--plan=1")
-        self.assertNotIn("another form", done.err)
-        for steps, end in ((1, ""), (2, "; no other theorem frees more")):
+        self.assertNotIn("but for the variables", done.err)
+        for steps, end in ((1, ""), (2, "; no further theorem frees more")):
             done = self.query("frees", "db.mm", "ax", f"--plan={steps}")
-            said = f"free are then 3 of 3 that rest on ax{end}; k only says ax in another form"
-            self.assertIn(f"mmquery: db.mm: {said}, and --keep-wrappers", done.err)
+            said = f"free are then 3 of the 3 that rest on ax{end}; {states.format('k')}"
+            self.assertIn(f"mmquery: db.mm: {said}", done.err)
 
     def test_an_axiom_that_states_a_theorem(self) -> None:
         """Where there is no chain, since an axiom takes the place of a theorem that has one."""
@@ -461,6 +462,34 @@ class Questions(World):
         self.assertEqual([row[1] for row in plan], ["1", "7"])
         first_one = asked("frees", str(self.folder / "choice.mm"), "--plan=1", "--", "ax")
         self.assertEqual([row[1:] for row in first_one], [["3", "g"]])
+
+    def test_no_exchange_frees_more(self) -> None:
+        """Another theorem in place of one of a plan doesn't free more than that, and the plan frees
+        what it says."""
+        tried = 0
+        for database, path, chance, on, users in self.rested_on(9):
+            steps = chance.randrange(2, 4)
+            rows = asked("frees", path, f"--plan={steps}", "--", on)
+            labels = [row[2] for row in rows]
+            total = len(freed(database, on, set(labels)))
+            self.assertEqual(int(rows[-1][1]), total)
+            for one in labels:
+                for other in set(users) - set(labels):
+                    exchanged = {*labels, other} - {one}
+                    self.assertLessEqual(len(freed(database, on, exchanged)), total, exchanged)
+            tried += total < len(users)
+        self.assertGreater(tried, 3)
+
+    def test_a_better_choice(self) -> None:
+        """Where more is left to be freed, another choice may free more, and that is said."""
+        lines = [shapes.theorem(name, "ax") for name in "abg"]
+        self.write("db.mm", shapes.HEAD + "".join(lines))
+        path = str(self.folder / "db.mm")
+        done = self.query("frees", path, "ax", "--plan=2")
+        self.assertIn("free are then 2 of the 3 that rest on ax; another choice of 2", done.err)
+        for steps in (1, 3, 4):
+            done = self.query("frees", path, "ax", f"--plan={steps}")
+            self.assertNotIn("another choice", done.err)
 
     def test_plan_by_dropping(self) -> None:
         """What a plan says is free doesn't rest on it any more in the database in which the

@@ -4,6 +4,7 @@ everything in databases made by chance."""
 import os
 import random
 from collections import Counter
+from collections.abc import Iterator
 from unittest import mock
 
 from query.arguments.context import Context
@@ -12,7 +13,16 @@ from query.comparisons.changes import Comparison, side_by_side
 from query.reports.choice import Options
 from query.spare.relations import relations
 from query.tests.test_repeats import Tried, subterms_of
-from query.tests.test_spare_search import FORMULAS, Maker, parsed, variables
+from query.tests.test_spare_search import (
+    FORMULAS,
+    Maker,
+    Term,
+    filled,
+    parsed,
+    said,
+    variables,
+    imp,
+)
 from query.tests.world import World, built_program, database_text
 from query.texts.assertions import Assertion
 
@@ -40,6 +50,10 @@ OPEN = "${ i $e |- p $. a1i $p |- ( q -> p ) $= ? $. $}\n"
 UNREAD = "${ i $e |- p $. a1i $a |- q -> p $. $}\n"
 OTHER = "${ i $e |- ( p -> p ) $. a1i $a |- ( q -> ( p -> p ) ) $. $}\n"
 TWO = "${ i $e |- p $. j $e |- q $. a1i $a |- ( q -> p ) $. $}\n"
+TRUE = "$c T $. wt $a wff T $.\n"
+BACK = "${ b $e |- ( T -> p ) $. mptru $a |- p $. $}\n"
+BOTH = TRUE + GIVEN + BACK
+LEFT_OPEN = "${ b $e |- ( q -> p ) $. mptru $a |- p $. $}\n"
 ONE, UNDER = "one $a |- ( r -> r ) $.", "one $a |- ( q -> ( r -> r ) ) $."
 INFERRED = [
     (GIVEN, ONE, UNDER, "weaker"),
@@ -49,6 +63,18 @@ INFERRED = [
     (GIVEN, ONE, "one $a |- ( q -> ( p -> ( r -> r ) ) ) $.", None),
     (GIVEN, ONE, "one $a |- ( ( r -> r ) -> q ) $.", None),
     (UNREAD, "one $a |- r $.", "one $a |- q -> r $.", None),
+    # what takes an antecedent away
+    (TRUE + BACK, UNDER, ONE, "weaker"),
+    (TRUE + BACK, ONE, UNDER, "stronger"),
+    (BOTH, ONE, UNDER, "same"),
+    (BOTH, UNDER, ONE, "same"),
+    (BOTH, ONE, "one $a |- ( ( p -> q ) -> ( r -> r ) ) $.", "weaker"),
+    (BOTH, ONE, "one $a |- ( r -> ( r -> r ) ) $.", "weaker"),
+    (BOTH, ONE, "${ h $e |- q $. one $a |- ( q -> ( r -> r ) ) $. $}", "weaker"),
+    (BOTH, ONE, "${ $d q r $. one $a |- ( q -> ( r -> r ) ) $. $}", "same"),
+    # what T stands for is distinct from everything
+    (BOTH, "${ $d r p $. one $a |- ( r -> p ) $. $}", "one $a |- ( q -> ( r -> p ) ) $.", "same"),
+    (LEFT_OPEN, UNDER, ONE, None),
     # under other names, and an instance
     (GIVEN, "one $a |- ( q -> q ) $.", "one $a |- ( q -> ( r -> r ) ) $.", "weaker"),
     (GIVEN, ONE, "one $a |- ( q -> ( ( p -> q ) -> ( p -> q ) ) ) $.", "weaker"),
@@ -190,7 +216,9 @@ class ByChance(World):
     def test_all(self) -> None:
         counts: Counter[tuple[str | None, bool]] = Counter()
         for seed in range(12):
-            text = database_text(Maker(seed).text(30).encode())
+            back = f"|- {said(imp(imp('p', 'p'), 'p'))}"
+            back = f"${{ back.1 $e {back} $. back $a |- p $. $}}\n"
+            text = database_text((Maker(seed).text(30) + back).encode())
             tried = Tried(text)
             logical = [one for one in text.assertions if one.typecode == "|-"]
             chance = random.Random(seed)
@@ -244,10 +272,15 @@ def follows(tried: Tried, one: Assertion, other: Assertion) -> bool:
     parts = sorted({part for each in {*given, term} for part in subterms_of(each)}, key=str)
     labels = [each.label for each in tried.text.assertions if is_inference(tried, each)]
     steps = tried.everything.has_step
-    return any(
+    if any(
         steps(other, one.label, part, given, parts)
         and any(steps(other, label, term, {part}, parts) for label in labels)
         for part in subterms_of(term)
+    ):
+        return True
+    return any(
+        steps(other, one.label, whole, given, [*parts, *subterms_of(whole)])
+        for whole in wholes(tried, term)
     )
 
 
@@ -257,3 +290,12 @@ def is_inference(tried: Tried, one: Assertion) -> bool:
     if one.typecode != "|-" or len(given) != 1 or [*one.frame().pairs()]:
         return False
     return given[0][3:] in {*FORMULAS} & variables(parsed(one.formula))
+
+
+def wholes(tried: Tried, term: Term) -> Iterator[Term]:
+    """From what a statement gives a formula that is the only variable of its only hypothesis."""
+    for one in tried.text.assertions:
+        given, name = tried.given(one), one.formula[3:]
+        if one.typecode == "|-" and len(given) == 1 and name in FORMULAS:
+            if variables(parsed(given[0])) == {name}:
+                yield filled(parsed(given[0]), {name: term})

@@ -1,10 +1,13 @@
 """What `review` says of a change, against what was changed."""
 
+import json
 import os
 import random
 import re
 import unittest
 from collections import Counter
+from collections.abc import Iterable
+from dataclasses import dataclass, replace
 from unittest import mock
 
 from query.commands.review import SHOWN_ROWS, out_of_order
@@ -30,7 +33,7 @@ class Reviewed(World):
         paths = [str(self.folder / "old.mm"), str(self.folder / self.write("new.mm", new))]
         rows = asked("review", *paths)
         for row in rows:
-            self.assertEqual(any(row[8:]), "changed" in row[1], row)
+            self.assertEqual(any(row[8:]), "changed" in row[1] or row[1] == "new", row)
         return [row[:8] for row in rows]
 
     def test_each_status(self) -> None:
@@ -82,7 +85,13 @@ class Reviewed(World):
         self.assertEqual(lines[2], f"**Theorems**: {SHOWN_ROWS + 5} new, 1 renamed.")
         self.assertEqual(lines[6], "| `a3` | renamed from `a2` |  |  |  | +0 |")
         self.assertEqual(sum(line.startswith("| `") for line in lines), SHOWN_ROWS)
-        self.assertIn("6 more aren't shown", lines[-1])
+        self.assertIn("6 more aren't shown; `mmquery review` lists them.", lines)
+        statements = lines[lines.index("**New statements**:") + 2 :]
+        self.assertEqual(statements[0], "- `n0`: `wff ( p -> p )`")
+        self.assertEqual(len(statements), SHOWN_ROWS + 2)
+        self.assertEqual(
+            statements[-1], "5 more aren't shown; `mmquery review` lists the theorems."
+        )
         same = self.answers("review", "old.mm", "old.mm", "--format", "markdown")
         self.assertEqual(same, ["**Axioms**: no change.", "", "**Theorems**: no change."])
 
@@ -95,7 +104,7 @@ class Reviewed(World):
             (SMALL.replace("ax-1", "ax-x"), "1 renamed (`ax-x` from `ax-1`)"),
             (
                 SMALL.replace("ax1 $p", "ax1o $p").replace(ax, ax[:-2] + "$. ax1 $a |- p $."),
-                "1 new",
+                "1 changed (`ax1`)",
             ),
             (SMALL + "www.evil.example $a |- p $.\n", "1 new (`www.evil.example`)"),
             (SMALL + "GH-1 $a |- p $.\n" + "x" * 300 + " $a |- q $.\n", f"`{'x' * 200}..`)"),
@@ -106,10 +115,11 @@ class Reviewed(World):
             lines = self.answers(*words, "--format", "markdown")
             self.assertTrue(lines[0].startswith("**Axioms**: "), lines)
             self.assertIn(said, lines[0])
-            self.assertRegex(self.query(*words).err, "axioms: [123] (new|renamed|gone)")
+            self.assertRegex(self.query(*words).err, "axioms: [123] (new|renamed|gone|changed)")
 
     def test_by_chance(self) -> None:
-        """Of two databases made by chance: what is new and gone, and what each new one rests on."""
+        """Of two databases made by chance: what is new and gone, and what each new one rests on. A
+        theorem that is an axiom now and says something else has a row too."""
         for seed in range(3):
             old, new = (invented(random.Random(2 * seed + k), 6) for k in (0, 1))
             self.write("a.mm", old.text)
@@ -120,7 +130,7 @@ class Reviewed(World):
                     rests = [axiom for axiom in new.axioms if axiom in new.rests(label)]
                     self.assertEqual(int(axioms), len(rests), label)
             named = {row[0] for row in rows if "gone" not in row[1]}
-            self.assertLessEqual(named, set(new.theorems()))
+            self.assertLessEqual(named, {*new.theorems(), *old.theorems()} & {*new.labels()})
 
     def test_order(self) -> None:
         """As few as can be are told as moved."""
@@ -135,6 +145,9 @@ class Reviewed(World):
 
 EDIT = re.compile(r"(?:- )?(\S+) newly cites (\S+), by which theorems came to rest on (.*?)\.?")
 COUNTS = re.compile(r"(\S+) \((\d+) did; without its new citations (?:as many|(\d+ fewer)) would\)")
+OF_EACH = re.compile(
+    r"(.+) \((\d+) did each; without its new citations (?:as many|(\d+ fewer)) would\)"
+)
 HEADING = "**Edits that let axioms in**:"
 Cites = dict[str, list[str]]
 
@@ -166,6 +179,309 @@ class Trees(unittest.TestCase):
             part = tree.far[part]
             steps += 1
         self.assertLess(steps, 40)
+
+
+@dataclass(frozen=True)
+class Proved:
+    """A theorem whose formula has so many arrows, which no other one has, or with none an axiom.
+    `cites` are those that its proof cites, by their arrows."""
+
+    label: str
+    cites: tuple[int, ...] = ()
+    is_compressed: bool = False
+
+
+Known = dict[int, Proved]
+
+
+class NewLabels(World):
+    """Proofs that cite what was renamed."""
+
+    def setUp(self) -> None:
+        super().setUp()
+        patch = mock.patch.dict(os.environ, {"MMDEPEND": built_program()})
+        patch.start()
+        self.addCleanup(patch.stop)
+
+    def told(self, old: str, new: str) -> tuple[dict[str, str], int]:
+        """The words about each theorem, and of how many the proof is said to be the same by new
+        labels, which a comment says as well."""
+        self.write("a.mm", old)
+        self.write("b.mm", new)
+        done = self.query("review", "a.mm", "b.mm", "--format", "json")
+        self.assertEqual(done.status, 0, done)
+        said = re.search(r"of (\d+) the proof is the same by new labels, such as", done.err)
+        count = int(said[1]) if said else 0
+        comment = "\n".join(self.answers("review", "a.mm", "b.mm", "--format", "markdown"))
+        counted = re.search(r"(\d+) with the same proof by new labels", comment)
+        self.assertEqual(int(counted[1]) if counted else 0, count, comment)
+        return {str(row["theorem"]): " ".join(words(row["status"])) for row in done.rows()}, count
+
+    def test_one_label(self) -> None:
+        """What cites it is only counted, unless something else became of it."""
+        new = SMALL.replace("a1i", "a1")
+        self.assertEqual(self.told(SMALL, new), ({"a1": "renamed"}, 1))
+        both = new.replace("a2 $p", "a3 $p")
+        self.assertEqual(self.told(SMALL, both), ({"a1": "renamed", "a3": "renamed"}, 1))
+        done = self.query("review", "a.mm", "b.mm", "--format", "markdown")
+        said = "**Theorems**: 2 renamed, 1 with the same proof by new labels."
+        self.assertEqual(done.out.splitlines()[2], said)
+        self.assertEqual(self.told(SMALL, SMALL.replace("ax-1", "ax-x")), ({}, 2))
+        done = self.query("review", "a.mm", "b.mm")
+        self.assertIn(
+            "(ax-x from ax-1); of 2 the proof is the same by new labels, such as ax1\n", done.err
+        )
+
+    def test_another_proof_besides(self) -> None:
+        """The proof of a2 has the new label, and is another one."""
+        proof, steps = "wq wp wi wq wp wq g a1i a1i", "wq wp wi wq wp wq g a1 a1"
+        new = SMALL.replace(proof, steps).replace("a1i $p", "a1 $p")
+        self.assertEqual(self.told(SMALL, new), ({"a1": "renamed"}, 1))
+        by_axiom = "wq wp wi wq wq wp wi wi wp wq g a1 wq wp wi wq ax-1 ax-mp"
+        for other in ("( wi a1 ) BADBABCEE", by_axiom):
+            text = new.replace(steps, other)
+            self.assertEqual(self.told(SMALL, text), ({"a1": "renamed", "a2": "proof"}, 0), other)
+        old = SMALL.replace(proof, "( wi a1i ) BADBABCEE")
+        broken = new.replace(steps, "( wi a1 ) BADB\n ABCEE")
+        self.assertEqual(self.told(old, broken), ({"a1": "renamed"}, 1))
+
+    def test_labels_of_hypotheses(self) -> None:
+        """Who cites an assertion that has the label that a hypothesis had keeps the words."""
+        head = "$c wff |- 0 $.\nz $a |- 0 0 $.\n"
+        proved = "t $p |- 0 $= h $. $}\n"
+        by_hypothesis = f"{head}${{ h $e |- 0 $. {proved}"
+        by_axiom = f"{head}h $a |- 0 $.\n${{ k $e |- 0 $. {proved}"
+        self.assertEqual(self.told(by_hypothesis, by_axiom), ({}, 0))
+        self.assertEqual(self.told(by_axiom, by_hypothesis), ({}, 0))
+
+    def test_labels_that_are_swapped(self) -> None:
+        """A proof that keeps its labels cites other statements, which here differ in a `$d`. These
+        are told as changed, and the proof is no other one."""
+        proofs = "t $p |- ( p -> q ) $= wp wq x $. u $p |- ( q -> p ) $= wq wp y $. $}\n"
+        last = f"${{ $d p q $. {proofs}"
+        head = "$c wff |- ( -> ) $.\n$v p q $.\nwp $f wff p $.\nwq $f wff q $.\n"
+        head += "wi $a wff ( p -> q ) $.\n"
+        free, apart = "%s $a |- ( p -> q ) $.\n", "${ $d p q $. %s $a |- ( p -> q ) $. $}\n"
+        turned = last.replace("x $.", "Y $.").replace("y $.", "x $.").replace("Y $.", "y $.")
+        old, swapped = head + free % "x" + apart % "y", head + free % "y" + apart % "x"
+        self.assertEqual(self.told(old + last, swapped + last), ({}, 0))
+        done = self.query("review", "a.mm", "b.mm")
+        self.assertIn("; axioms: 2 changed (y, x), 2 renamed (y from x, x from y)\n", done.err)
+        self.assertEqual(self.told(old + last, swapped + turned), ({}, 2))
+        given = head + free % "z" + apart % "x" + apart % "y"
+        self.assertEqual(self.told(old + last, given + last), ({}, 0))
+        self.assertEqual(self.told(old + last, given + last.replace("x $.", "z $.")), ({}, 1))
+        taken = head + apart % "x" + last.replace("y $.", "x $.")
+        self.assertEqual(self.told(old + last, taken), ({}, 1))
+
+    def test_by_chance(self) -> None:
+        """Against what was cited: labels are exchanged and go round, some are given to what is new,
+        and some proofs are others. Statements are known by their arrows, whatever their labels."""
+        kinds: Counter[str] = Counter()
+        for seed in range(25):
+            chance = random.Random(seed)
+            old = {n: proved_by_chance(chance, f"t{n}", range(n)) for n in range(7)}
+            new = edited(chance, old)
+            rows, count = self.told(*(text_of_proved(some) for some in (old, new)))
+            by_label = {one.label: (n, one) for n, one in old.items()}
+            renewed = 0
+            for n, one in new.items():
+                if n == 0:
+                    continue
+                was = n if n in old else by_label.get(one.label, (None,))[0]
+                keeps = was is not None and words_of(was, old) == words_of(n, new)
+                is_same = n in old and proof_in_model(old[n]) == proof_in_model(one)
+                has_proof = "proof" in rows.get(one.label, "").split()
+                is_another = was is not None and not keeps and not is_same
+                self.assertEqual(has_proof, is_another, (seed, n, rows))
+                renewed += is_same and not keeps
+            self.assertEqual(count, renewed, seed)
+            kinds.update(
+                {"by new labels": renewed, "another": sum("proof" in e for e in rows.values())}
+            )
+        self.assertGreater(min(kinds["by new labels"], kinds["another"]), 10, kinds)
+
+
+def words(value: object) -> list[str]:
+    """The words of a list in an answer."""
+    return [str(each) for each in value] if isinstance(value, list) else []
+
+
+def proved_by_chance(chance: random.Random, label: str, before: Iterable[int]) -> Proved:
+    """A theorem that cites some of those before it."""
+    some = tuple(n for n in before if n and chance.random() < 0.5)
+    return Proved(label, some[:3], chance.random() < 0.5)
+
+
+def edited(chance: random.Random, old: Known) -> Known:
+    """What became of theorems: labels go round, a proof is another one, and one is new."""
+    labels = [one.label for one in old.values()] + ["u0", "u1"]
+    some = chance.sample(range(len(labels)), chance.choice((0, 1, 2, 2, 3)))
+    turned = dict(zip(some, some[1:] + some[:1]))
+    if len(some) == 1:
+        turned = {some[0]: len(labels) - 1}
+    new = {n: replace(one, label=labels[turned.get(n, n)]) for n, one in old.items()}
+    number = chance.randrange(1, len(old))
+    if chance.random() < 0.5:
+        new[number] = proved_by_chance(chance, new[number].label, range(number))
+    taken = {one.label for one in new.values()}
+    free = [label for label in labels if label not in taken]
+    return new | {len(old): proved_by_chance(chance, chance.choice(free), range(len(old)))}
+
+
+def proof_in_model(one: Proved) -> tuple[tuple[int, ...], bool]:
+    """What is cited, whatever its labels, and in which form the proof is."""
+    return one.cites, one.is_compressed
+
+
+def formula_steps(arrows: int) -> list[str]:
+    """How a formula with so many arrows is put together."""
+    return ["wp"] * (arrows + 1) + ["wi"] * arrows
+
+
+def words_of(arrows: int, known: Known) -> str:
+    """A proof: that of an axiom for all formulas, by which others are brought in."""
+    one = known[arrows]
+    steps = [*formula_steps(arrows), known[0].label]
+    for cited in one.cites:
+        brought = [*formula_steps(cited), "wp", known[cited].label]
+        steps = [*formula_steps(arrows), *brought, *steps, "use"]
+    if not one.is_compressed:
+        return " ".join(steps)
+    labels = [label for label in dict.fromkeys(steps) if label != "wp"]
+    letters = "".join("ABCDEFGHIJKLMNOPQRST"[["wp", *labels].index(label)] for label in steps)
+    return f"( {' '.join(labels)} ) {letters}"
+
+
+def text_of_proved(known: Known) -> str:
+    """The database. The statement without an arrow is the axiom."""
+    head = "$c wff |- ( -> ) $.\n$v p q $.\nwp $f wff p $.\nwq $f wff q $.\n"
+    head += "wi $a wff ( p -> q ) $.\n"
+    head += "${ use.1 $e |- q $. use.2 $e |- p $. use $a |- p $. $}\n"
+    lines = [f"{known[0].label} $a |- p $."]
+    for n in sorted(known):
+        formula = "( p -> " * n + "p" + " )" * n
+        if n:
+            lines.append(f"{known[n].label} $p |- {formula} $= {words_of(n, known)} $.")
+    return head + "\n".join(lines) + "\n"
+
+
+class NewOnes(World):
+    """What new theorems say, and on which axioms that OLD hasn't they rest."""
+
+    BAD = "bad $a |- ( p -> q ) $.\n"
+    NEW = (
+        BAD + "one $p |- ( q -> p ) $= wq wp bad $.\n"
+        "${ h2 $e |- p $. $d p q $. two $p |- q $= wp wq h2 wp wq bad ax-mp $. $}\n"
+        "three $p |- ( p -> p ) $= wp wp one $. four $p |- ( p -> ( p -> p ) ) $= wp wp ax-1 $.\n"
+    )
+
+    def setUp(self) -> None:
+        super().setUp()
+        patch = mock.patch.dict(os.environ, {"MMDEPEND": built_program()})
+        patch.start()
+        self.addCleanup(patch.stop)
+        self.write("old.mm", SMALL)
+
+    def lines(self, form: str, new: str, *words: str) -> list[str]:
+        """The lines about a change of the small database."""
+        paths = [str(self.folder / "old.mm"), str(self.folder / self.write("new.mm", new))]
+        return answered(form, "review", *paths, *words).decode().splitlines()
+
+    def test_rows(self) -> None:
+        rows = json.loads("\n".join(self.lines("json", SMALL + self.NEW)))
+        names = ("theorem", "axioms", "gained", "via", "differ", "old", "new", "how")
+        self.assertEqual(
+            [tuple(row[name] for name in names) for row in rows],
+            [
+                ("one", 1, ["bad"], ["bad"], None, None, "|- ( q -> p )", None),
+                ("two", 2, ["bad"], ["bad"], None, None, "$e |- p $. $d p q $. |- q", None),
+                ("three", 1, ["bad"], ["one"], None, None, "|- ( p -> p )", None),
+                ("four", 1, [], [], None, None, "|- ( p -> ( p -> p ) )", None),
+            ],
+        )
+
+    def test_lines(self) -> None:
+        """As text and in a comment these stand first; statements stand last."""
+        said = "bad is new among the axioms, and new theorems rest on it: one, two, three"
+        text = self.lines("text", SMALL + self.NEW)
+        self.assertEqual(text[:2], [said, ""])
+        self.assertEqual(text[-6:-3], ["", "three: new", "  is   |- ( p -> p )"])
+        comment = [line.replace("`", "") for line in self.lines("markdown", SMALL + self.NEW)]
+        self.assertEqual(
+            comment[:5],
+            ["**Axioms**: 1 new (bad).", "", "**New theorems on new axioms**:", "", f"- {said}."],
+        )
+        news = comment[comment.index("**New statements**:") + 2 :]
+        self.assertEqual(news[0], "- bad: |- ( p -> q )")
+        self.assertEqual(news[2], "- two: $e |- p $. $d p q $. |- q")
+        self.assertEqual(len(news), 5)
+
+    def test_by_chance(self) -> None:
+        """On which of two new axioms new theorems rest, by what they cite: of themselves, or by
+        theorems of both, of which some have other proofs."""
+        told: Counter[bool] = Counter()
+        for seed in range(8):
+            chance = random.Random(seed)
+            old = cites_by_chance(chance)
+            new = old | {label: ["b0", "ax"] for label in chance.sample(THEOREMS, 1)}
+            before = ["b0", "b1", *AXIOMS, *THEOREMS]
+            for number in range(6):
+                new[f"n{number}"] = chance.sample(before[:3] + before[-6:], 2)
+                before.append(f"n{number}")
+            self.write("old.mm", text_of(old))
+            last = "a1 $a |- p $.\n"
+            text = text_of(new).replace(last, f"{last}b0 $a |- p $.\nb1 $a |- p $.\n")
+            rows = json.loads("\n".join(self.lines("json", text)))
+            fresh = [row for row in rows if row["status"] == ["new"]]
+            self.assertEqual([row["theorem"] for row in fresh], before[-6:])
+            for label, gained, via in (
+                (row["theorem"], row["gained"], row["via"]) for row in fresh
+            ):
+                wanted = [axiom for axiom in ("b0", "b1") if axiom in resting(new, label)]
+                self.assertEqual(gained, wanted, (seed, label))
+                for axiom, cited in zip(gained, via, strict=True):
+                    self.assertIn(cited, new[label])
+                    self.assertIn(axiom, resting(new, cited))
+                    told[cited in THEOREMS] += 1
+        self.assertGreater(min(told[True], told[False]), 3, told)
+
+    def test_what_is_no_new_axiom(self) -> None:
+        """One that was renamed, or isn't chosen, is none; and one that was a theorem is."""
+        renamed = (SMALL + self.NEW).replace("ax-1", "ax-x")
+        self.assertIn("four", "".join(self.lines("text", renamed)))
+        self.assertEqual(sum("is new among" in line for line in self.lines("text", renamed)), 1)
+        rows = self.lines("csv", SMALL + self.NEW, "--axioms", "ax-")
+        self.assertEqual(rows[1].split(",")[:6], ["one", "new", "", "0", "", ""])
+        proof = "$p |- ( p -> ( q -> p ) ) $= wp wq ax-1 $."
+        axiom = SMALL.replace(f"ax1 {proof}", "ax1 $a |- ( p -> ( q -> p ) ) $.")
+        axiom += "new $p |- ( q -> ( p -> q ) ) $= wq wp ax1 $.\n"
+        said = "ax1 is new among the axioms, and new theorems rest on it: new"
+        self.assertEqual(self.lines("text", axiom)[0], said)
+
+    def test_long_ones(self) -> None:
+        """Many pairs are counted, and what is longer still is cut; and few theorems are named."""
+        names = [f"v{number}" for number in range(60)]
+        head = f"$v {' '.join(names)} $.\n"
+        head += "".join(f"f{name} $f wff {name} $.\n" for name in names)
+        for count, said in ((4, "$d v0 v1 $. "), (30, "$d 435 pairs $. |- ( v0 -> ")):
+            some = names[:count]
+            formula = "".join(f"( {name} -> " for name in some) + "p" + " )" * count
+            proof = " ".join(f"f{name}" for name in some) + " wp" + " wi" * count
+            block = f"${{ $d {' '.join(some)} $. ax $a |- {formula} $. t $p |- {formula} $= "
+            steps = "wp " + " ".join(f"f{name}" for name in some)
+            new = f"{SMALL}{head}{block}{steps} ax $. $}}\nu $p wff {formula} $= {proof} $.\n"
+            rows = json.loads("\n".join(self.lines("json", new)))
+            self.assertEqual([row["theorem"] for row in rows], ["t", "u"])
+            self.assertTrue(rows[0]["new"].startswith(said), rows)
+            self.assertTrue(rows[0]["new"].endswith(f"|- {formula}"), rows)
+        shown = [line for line in self.lines("text", new) if line.startswith("  is   ")]
+        self.assertTrue(shown[0].endswith(" ..") and len(shown[0]) < 320, shown)
+        many = "".join(f"n{number} $p |- ( q -> p ) $= wq wp bad $.\n" for number in range(14))
+        first = self.lines("text", SMALL + self.BAD + many)[0]
+        self.assertTrue(
+            first.endswith(": n0, n1, n2, n3, n4, n5, n6, n7, n8, n9 and 4 more"), first
+        )
 
 
 class Edits(World):
@@ -203,6 +519,16 @@ class Edits(World):
         self.assertEqual(markdown[2:6], [HEADING, "", f"- {said}.", ""])
         self.assertEqual(markdown[6], "**Theorems**: 1 with another proof.")
 
+    def test_the_same_of_all_axioms(self) -> None:
+        """Numbers that are the same for all axioms of an edit are told once."""
+        old = {"s": ["other", "a0"], "t": ["ax", "ax"], "u": ["t", "ax"]}
+        text, markdown = self.both(text_of(old), text_of(old | {"t": ["ax", "s"]}))
+        said = (
+            "t newly cites s, by which theorems came to rest on other, a0"
+            " (2 did each; without its new citations 2 fewer would)"
+        )
+        self.assertEqual((text[0], markdown[4]), (said, f"- {said}."))
+
     def test_an_edit_that_lets_nothing_in(self) -> None:
         """Another proof by the same axioms, or by fewer, isn't told as such an edit."""
         by_ax1 = SMALL.replace("h wp wq ax-1 ax-mp $.", "h wp wq ax1 ax-mp $.")
@@ -228,7 +554,7 @@ class Edits(World):
     def test_by_chance(self) -> None:
         """Each edit is a new citation of what rests on the axiom, and together they are the reason
         for all that came to rest on it; these are counted by trying everything."""
-        told = both = 0
+        told = both = alike = 0
         for seed in range(40):
             chance = random.Random(seed)
             old = cites_by_chance(chance)
@@ -245,7 +571,11 @@ class Edits(World):
             for citing, cited, axioms in (match.groups() for match in edits):
                 self.assertIn(cited, new[citing])
                 self.assertNotIn(cited, old[citing])
-                for axiom, count, fewer in COUNTS.findall(axioms):
+                numbers = [numbers for _, *numbers in counts_in(axioms)]
+                is_alike = len(numbers) > 1 and all(each == numbers[0] for each in numbers)
+                self.assertEqual(is_alike, "each" in axioms, (seed, axioms))
+                alike += is_alike
+                for axiom, count, fewer in counts_in(axioms):
                     self.assertIn(axiom, resting(new, cited))
                     came = came_to_rest(old, new, axiom)
                     followed = [each for each in came if citing in resting(new, each)]
@@ -260,6 +590,16 @@ class Edits(World):
             self.assertEqual(dict(counts), {axiom: n for axiom, n in wanted.items() if n}, seed)
         self.assertGreater(told, 40)
         self.assertGreater(both, 10)
+        self.assertGreater(alike, 0)
+
+
+def counts_in(axioms: str) -> list[tuple[str, str, str]]:
+    """What a line tells of each axiom: how many theorems came to rest on it, and how many fewer
+    would, both in words. Where it is the same for all it is told once."""
+    match = OF_EACH.fullmatch(axioms)
+    if match is None:
+        return COUNTS.findall(axioms)
+    return [(axiom, match[2], match[3] or "") for axiom in match[1].split(", ")]
 
 
 AXIOMS = ["ax", "other", "a0", "a1"]

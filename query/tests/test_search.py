@@ -9,7 +9,7 @@ from collections.abc import Iterator, Mapping, Sequence
 from types import MappingProxyType
 
 from query.formulas.bracketed import MOST_AROUND, MOST_TRIED, bracketed
-from query.formulas.search import pattern_of
+from query.formulas.search import conclusions, pattern_of
 from query.formulas.syntax import syntax_of
 from query.tests.test_equivalents import BASE, NAMES
 from query.tests.world import DATABASES, SMALL, World, database_text
@@ -75,6 +75,14 @@ def has(pattern: Sequence[str], words: Sequence[str]) -> bool:
     """Whether a formula has a pattern, by all its stretches."""
     stretches = itertools.combinations(range(len(words) + 1), 2)
     return any(any(ways(pattern, words[start:end])) for start, end in stretches)
+
+
+def concluded(words: Sequence[str]) -> Iterator[Sequence[str]]:
+    """What a formula without its typecode concludes: itself, and what an arrow leads to."""
+    yield words
+    middle = end_of(words, 1) if words[0] == "(" else None
+    if middle is not None and words[middle] == "->":
+        yield from concluded(words[middle + 1 : -1])
 
 
 def formulas_with_hypotheses(
@@ -193,6 +201,67 @@ class Searched(World):
                 tried += 0 < len(wanted) < len(said)
         self.assertGreater(tried, 12)
 
+    def test_lacking_by_chance(self) -> None:
+        """Statements whose `$e` don't have patterns, by a loop over all statements that tries all
+        ways; a variable stands for the same as in the other patterns."""
+        fewer, of_several = 0, 0
+        for seed in range(4):
+            chance = random.Random(100 + seed)
+            said, given = formulas_with_hypotheses(chance)
+            lines = [BASE]
+            for label, each in said.items():
+                before = [f"{which} $e |- {one} $." for which, one in given[label].items()]
+                lines.append(f"${{ {' '.join(before)} {label} $a |- {each} $. $}}\n")
+            self.write("db.mm", "".join(lines))
+            for _ in range(12):
+                pattern = stretch(chance, said)
+                given_too, *lacked = (
+                    stretch(chance, chance.choice([*given.values()]))
+                    for _ in range(chance.randint(2, 3))
+                )
+                conditions = [given_too] * chance.randint(0, 1)
+                rows = [
+                    (label, which, [(one, [*given[label].values()]) for one in conditions]
+                     + [(pattern, [each])])
+                    for label in said
+                    for which, each in ((None, said[label]), *given[label].items())
+                ]  # fmt: skip
+                having = [row for row in rows if agree(row[2])]
+                wanted = [
+                    (label, which)
+                    for label, which, others in having
+                    if not any(agree([*others, (one, [*given[label].values()])]) for one in lacked)
+                ]
+                options = [f"--given={' '.join(each)}" for each in conditions]
+                options += [f"--not-given={' '.join(each)}" for each in lacked]
+                words = [*options, "--like=t*", "--", "db.mm", " ".join(pattern)]
+                self.assertEqual(self.found(*words), wanted, words)
+                fewer += 0 < len(wanted) < len(having)
+                of_several += len(wanted) < len(having) and len(lacked) > 1
+        self.assertGreater(min(fewer, of_several), 3, (fewer, of_several))
+
+    def test_lacking_by_hand(self) -> None:
+        self.write("small.mm", SMALL)
+        every = ["ax-mp", "a1i", "a2"]
+
+        def labels(*words: str) -> list[object]:
+            """What is found, by labels."""
+            found = self.found("small.mm", *words, "--like=ax-mp,a1i,a2", "--no-hypotheses")
+            return [label for label, _ in found]
+
+        self.assertEqual(labels("|-"), every)
+        self.assertEqual(labels("|-", "--not-given", "-> q"), ["a1i", "a2"])
+        self.assertEqual(labels("|-", "--not-given", "|- p"), [])
+        # A variable of both stands for the same: no `$e` is the formula itself.
+        self.assertEqual(labels("|- q", "--not-given", "|- ( p -> q )"), ["a1i", "a2"])
+        self.assertEqual(labels("|- q", "--not-given", "|- q"), every)
+        self.assertEqual(labels("-> p )", "--not-given", '"|- p"'), [])
+        self.assertEqual(labels("|- q", "--given", "|- p", "--not-given", "->"), ["a1i", "a2"])
+        done = self.query("search", "small.mm", "( p ->", "|- q", "--not-given=|-", "--like=a2")
+        self.assertEqual((done.status, done.out), (0, ""))
+        self.assertIn("no formula has that among what passes --like a2\n", done.err)
+        self.refuses("search", "small.mm", "p", "--not-given=x", why="has the symbol 'x'")
+
     def test_by_hand(self) -> None:
         self.write("small.mm", SMALL)
         self.assertEqual(self.found("small.mm", "( p -> q ) )"), [("ax-1", None), ("wi2", None),
@@ -214,13 +283,38 @@ class Searched(World):
         )
         self.assertEqual(lines, ["label  formula", "a1i    |- ( q -> p )"])
         self.refuses("search", "small.mm", "p", "--given=x", why="no statement has the symbol 'x'")
-        self.refuses("search", "small.mm", "-> p", why="there is no option")
-        self.assertIn(("a1i", None), self.found("--", "small.mm", "-> p"))
         self.refuses("search", "small.mm", "( p <-> q )", why="no statement has the symbol '<->'")
         self.refuses("search", "small.mm", '""', why="wants at least one symbol")
         self.refuses("search", "small.mm", "  ", why="wants at least one symbol")
         self.write("report", self.report("small.mm"))
         self.refuses("search", "report", "p")
+
+    def test_what_begins_with_a_dash(self) -> None:
+        """A word that no option can be is a PATTERN. What an option may be meant by is refused."""
+        more = "wn $a wff -. p $. n1 $a |- -. p $.\n"
+        self.write("small.mm", SMALL.replace("wff |-", "wff |- -u -.") + more)
+        self.assertEqual(self.found("small.mm", "-. p"), [("wn", None), ("n1", None)])
+        self.refuses("search", "-. p", "small.mm", why="DATABASE stands before it")
+        wanted = self.found("--", "small.mm", "-> p")
+        self.assertIn(("a1i", None), wanted)
+        for words in (("small.mm", "-> p"), ("small.mm", "->", "p"), ("small.mm", "->", "-> p")):
+            self.assertLessEqual({*wanted}, {*self.found(*words)}, words)
+        given = self.found("small.mm", "|- q", "--given", "-> q")
+        self.assertEqual(given, [("ax-mp", None)])
+        self.assertEqual(self.found("small.mm", "|- q", "--given=-> q"), given)
+        for word, why in (
+            ("--under-x", "there is no option --under-x; did you mean --under?"),
+            ("--given-x=p q", "there is no option --given-x; did you mean --given?"),
+            ("--no-hypotheses p", "there is no option --no-hypotheses p"),
+            ("-q", "there is no option -q"),
+            ("-u", "there is no option -u; a formula that looks like an option stands behind --"),
+            ("-x=p q", "there is no option -x"),
+        ):
+            self.refuses("search", "small.mm", "p", word, why=why)
+            self.refuses("search", word, "small.mm", "p", why=why)
+        self.refuses("search", "small.mm", "-u p", why="no statement has the symbol '-u'")
+        self.refuses("search", "small.mm", "--", "-u", why="no statement has the symbol '-u'")
+        self.refuses("verify", "-> p", "small.mm", why="there is no option -> p")
 
     def test_the_sides_of_an_arrow(self) -> None:
         """Where nothing has a pattern with one arrow, it is said how many have both its sides."""
@@ -290,6 +384,101 @@ class Searched(World):
         self.assertEqual([*bracketed(grammar, ["ph"] * 41, kinds)], [])
         self.assertEqual([*bracketed(grammar, ["("] * 40, kinds)], [])
         self.assertLessEqual(len([*bracketed(grammar, "ph -> ".split() * 20, kinds)]), MOST_TRIED)
+
+    def test_the_typecode_that_is_left_out(self) -> None:
+        """Where nothing has a pattern that begins with a typecode, it is said how many have it
+        without that, also with more brackets."""
+        lines = "b1 $a |- ( Foo -> ( Q x -> Foo ) ) $. b2 $a |- A. x ( Foo -> Q x ) $.\n"
+        self.write("db.mm", BASE + lines)
+        for pattern, said in (
+            ("|- ( Q x -> Foo )", "; 1 formula has '( Q x -> Foo )'"),
+            ("|- Q x", "; 2 formulas have 'Q x'"),
+            ("|- Q x -> Foo", "; 1 formula has 'Q x -> Foo'"),
+            ("|- A. x Q x -> Foo", ""),
+            ("|- Q x -> A. y ph -> ps", ""),
+            ("|- R x y", ""),
+            ('"|- Q x"', ""),
+        ):
+            done = self.query("search", "--like=b*", "--", "db.mm", pattern)
+            self.assertEqual((done.status, done.out), (0, ""), pattern)
+            nothing = f"no formula has that among what passes --like 'b*'{said}"
+            self.assertEqual(done.err, f"mmquery: db.mm: {nothing}\n", pattern)
+        lines = "b1 $a |- ( Foo -> ( ( Q x -> Q y ) -> Foo ) ) $.\n"
+        self.write("db.mm", BASE + lines)
+        err = self.query("search", "--like=b*", "db.mm", "|- Q x -> Q y -> ph").err
+        self.assertEqual(err.partition("; ")[2], "1 formula has '( Q x -> Q y ) -> ph'\n")
+
+    def test_conclusions_by_chance(self) -> None:
+        """Against all conclusions of each formula, and all ways to put something in place of
+        variables."""
+        behind, fewer = 0, 0
+        for seed in range(6):
+            chance = random.Random(50 + seed)
+            said = {}
+            for number in range(16):
+                parts = [formula(chance, 1) for _ in range(chance.randint(1, 3))]
+                begins = "".join(f"( {part} -> " for part in parts[1:])
+                ends = f"{parts[0]}{' )' * (len(parts) - 1)}"
+                said[f"t{number}"] = f"{begins}{ends}".split()
+            lines = [f"{label} $a |- {' '.join(each)} $.\n" for label, each in said.items()]
+            self.write("db.mm", BASE + "".join(lines))
+            for _ in range(8):
+                pattern = chance.choice([*concluded(chance.choice([*said.values()]))])
+                pattern = chance.choice([pattern, pattern, formula(chance, 1).split()])
+                text = " ".join(pattern)
+                typed = chance.choice(["", "|- "]) + text
+                wanted = [
+                    (label, None)
+                    for label, words in said.items()
+                    if any(any(ways(pattern, each)) for each in concluded(words))
+                ]
+                words = ["--conclusion", "--like=t*", "db.mm", "--", typed]
+                self.assertEqual(self.found(*words), wanted, pattern)
+                behind += any(not any(ways(pattern, said[str(label)])) for label, _ in wanted)
+                fewer += len(wanted) < sum(has(pattern, each) for each in said.values())
+                wanted = [
+                    (label, None)
+                    for label, each in said.items()
+                    if pattern in map(list, concluded(each))
+                ]
+                self.assertEqual(self.found(*words[:-1], f'"{typed}"'), wanted, pattern)
+        self.assertGreater(min(behind, fewer), 5, (behind, fewer))
+
+    def test_conclusions_by_hand(self) -> None:
+        """A `$e` has a conclusion as well; what stands elsewhere is none, and neither is a part of
+        one; and other patterns are of any part."""
+        lines = "b1 $a |- ( Foo -> ( Q x -> R x y ) ) $. b2 $a |- ( R x y -> Foo ) $.\n"
+        lines += "${ b3.1 $e |- ( Foo -> R x y ) $. b3 $a |- ( Foo <-> R x y ) $. $}\n"
+        lines += "b4 $a |- A. x R x y $. b5 $a |- R x y $.\n"
+        self.write("db.mm", BASE + lines)
+        words = ("--conclusion", "--like=b*", "db.mm")
+        has_it = [("b1", None), ("b3", "b3.1"), ("b5", None)]
+        self.assertEqual(self.found(*words, "R x y"), has_it)
+        self.assertEqual(self.found(*words, "|- R y x"), has_it)
+        self.assertEqual(self.found(*words, '"R y x"'), [])
+        self.assertEqual(self.found(*words, "|-"), [])
+        self.assertEqual(self.found(*words, "( ph -> R x y )"), has_it[:2])
+        own = [pair for pair in has_it if pair[1] is None]
+        self.assertEqual(self.found(*words, "R x y", "ph", "--no-hypotheses"), own)
+        both = [("b3", None), ("b3", "b3.1")]
+        self.assertEqual(self.found(*words, "ph", "--given=Foo -> R"), both)
+        done = self.query("search", *words, "ph -> R x y")
+        said = "no formula has that as its conclusion among what passes --like 'b*'"
+        said += "; 2 formulas have '( ph -> R x y )'"
+        self.assertEqual((done.out, done.err), ("", f"mmquery: db.mm: {said}\n"))
+
+    def test_conclusions_of_odd_formulas(self) -> None:
+        """What isn't `( X -> Y )` is its own conclusion, and a deep formula takes no long."""
+        for words in (
+            "|- ( p <-> q )", "|- ( p -> q", "|- ( p -> q ) r", "|- p -> q", "|- ( p -> q -> r )",
+            "|- ) -> (", "|- ( ( p -> q ) )", "|- ( p ) -> ( q )",
+        ):  # fmt: skip
+            symbols = words.split()
+            self.assertEqual(conclusions(symbols), {1: len(symbols)}, words)
+        self.assertEqual(conclusions("|- ( ( p -> q ) -> r )".split()), {1: 10, 8: 9})
+        count = 100_000
+        symbols = ["|-", *["(", "p", "->"] * count, "q", *[")"] * count]
+        self.assertEqual(len(conclusions(symbols)), count + 1)
 
     def test_a_label_is_no_symbol(self) -> None:
         self.write("db.mm", BASE + "b1 $a |- Foo $.\n")

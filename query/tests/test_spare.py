@@ -88,13 +88,16 @@ class Spare(World):
         self.assertEqual(self.rows("db.mm", "bad", "--theorem", "t2"), [])
         done = self.query("spare", "db.mm", "near")
         self.assertEqual((done.out, done.status), ("", 0))
-        self.assertIn("no theorem was found that can do without", done.err)
+        self.assertIn("no theorem was found that can do without near\n", done.err)
         for words, said in (
             (("far", "--theorem", "t1"), "t1 doesn't rest on far"),
             (("up", "far", "--theorem", "t1", "--theorem", "t2"),
              "none of the theorems rests on any of the axioms"),
             (("up",), "none of the theorems rests on up"),
-            (("bad", "far", "--theorem", "t2"), "no theorem was found that can do without"),
+            (("bad", "far", "--theorem", "t2"),
+             "no theorem was found that can do without any of the axioms"),
+            (("--theorem", "t2"),
+             "no theorem was found that can do without an axiom on which it rests"),
         ):  # fmt: skip
             done = self.query("spare", "db.mm", *words)
             self.assertEqual((done.status, done.out), (0, ""), words)
@@ -512,7 +515,8 @@ class Limits(World):
         ):
             command("spare").run(Context(Output(), False), words)
         said = GIVEN_UP.format(2, "t1")
-        told.assert_called_once_with(f"{path}: no theorem was found that can do without; {said}")
+        none = "no theorem was found that can do without bad"
+        told.assert_called_once_with(f"{path}: {none}; {said}")
 
     def test_given_up_in_one_statement(self) -> None:
         """Hypotheses that could be matched in very many orders."""

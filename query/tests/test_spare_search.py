@@ -320,10 +320,11 @@ class ByChance(World):
         new_steps: bool = False,
         may_gain: frozenset[str] = frozenset(),
         at_once: int = 1,
+        theorems: frozenset[str] | None = None,
     ) -> tuple[list[Change], Text, bytes]:
         """What the search finds, judged."""
         database = Context(uses_cache=False).database(path, Options())
-        wanted = Wanted("|-", axioms, has_new_steps=new_steps, may_gain=may_gain)
+        wanted = Wanted("|-", axioms, theorems=theorems, has_new_steps=new_steps, may_gain=may_gain)
         changer = Changer(database, wanted, at_once)
         changes = list(changer.changes())
         data = rewritten(database.text, changes)
@@ -356,6 +357,38 @@ class ByChance(World):
                 direct += sum(each.proof is not None for each in changes)
                 cascades += sum(each.proof is None for each in changes)
         self.assertGreater(min(direct, cascades, kept), 40)
+
+    def test_some_theorems(self) -> None:
+        """Of those whose proofs may be changed all are freed that replacements free, and of the
+        others those that cite nothing else. What is freed alone is freed among others."""
+        direct = outside = refused = 0
+        for seed, axiom in itertools.product(range(12), ("bad", "five")):
+            path = str(self.folder / self.write("chance.mm", Maker(seed).text(40)))
+            before = self.marks(path)
+            every = self.freed(path, (axiom,))[0]
+            new = [each.theorem for each in every if each.proof is not None]
+            left_out = {each.theorem for each in every if each.proof is None} | {*new[1::3]}
+            some = frozenset(before).difference(left_out)
+            changes, text, data = self.freed(path, (axiom,), theorems=some)
+            after = self.marks(str(self.folder / self.write("new.mm", data)))
+            everything = Everything(text, after)
+            for one in text.assertions:
+                if one.kind != "p" or axiom not in before[one.label]:
+                    continue
+                is_lost = axiom not in after[one.label]
+                keeps = any(axiom in after.get(word, ()) for word in text.proof(one))
+                wanted = everything.is_freed(one, axiom) if one.label in some else not keeps
+                self.assertEqual(is_lost, wanted, f"{seed} {axiom} {one.label}")
+                outside += is_lost and one.label not in some
+                refused += not is_lost and one.label in left_out
+            found = [change for change in changes if change.proof is not None]
+            self.assertLessEqual({change.theorem for change in found}, some)
+            for change in found[:1]:
+                alone = frozenset([change.theorem])
+                self.assertIn(change, self.freed(path, (axiom,), theorems=alone)[0])
+            direct += len(found)
+        self.assertGreater(direct, 10)
+        self.assertGreater(min(outside, refused), 3)
 
     def test_what_may_be_gained(self) -> None:
         """By all replacements that gain no others; what gains is said, and no more is gained."""

@@ -213,6 +213,18 @@ class Structure(World):
             ],
         )
 
+    def test_order_of_theorems(self) -> None:
+        """The axioms are left out, and where nothing is left it is said."""
+        every = self.rows("order", "db.mm")
+        theorems = [row for row in every if row[1] != "axiom"]
+        self.assertLess(len(theorems), len(every))
+        self.assertEqual(self.rows("order", "db.mm", "--theorems"), theorems)
+        self.write("axioms.mm", "$c |- x $.\nax $a |- x $.\n")
+        done = self.query("order", "axioms.mm", "--theorems")
+        said = "mmquery: axioms.mm: has no theorem\n"
+        self.assertEqual((done.status, done.out, done.err), (0, "", said))
+        self.assertEqual(self.query("order", "axioms.mm").err, "")
+
     def test_order_by_chance(self) -> None:
         for seed in range(5):
             database = invented(random.Random(seed))

@@ -127,6 +127,12 @@ class Parts(World):
             edges = {(match[1], match[2]) for match in found if match is not None}
             self.assertEqual(edges, {*self.edges("--landmarks=4", label)})
 
+    def test_a_picture_is_made_by_another_program(self) -> None:
+        self.write("db.mm", SMALL)
+        why = "no picture is drawn; `--as dot | dot -Tsvg` does, with Graphviz"
+        self.refuses("graph", "db.mm", "a2", "--as", "svg", why=why)
+        self.refuses("graph", "db.mm", "a2", "--as", "gif", why="invalid choice: 'gif'")
+
     def test_nothing(self) -> None:
         self.write("db.mm", SMALL)
         for words, why in (

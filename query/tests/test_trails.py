@@ -2,10 +2,11 @@
 compared with the log of whoever made the revisions."""
 
 import random
+import re
 from collections.abc import Sequence
 from dataclasses import dataclass, field, replace
 
-from query.tests.repositories import ADDED, BASE, FREED, Repositories, changed
+from query.tests.repositories import ADDED, BASE, FREED, TAKEN, Repositories, changed
 
 HEAD = """$c wff |- ( -> ) $.
 $v p q $.
@@ -15,6 +16,7 @@ wi $a wff ( p -> q ) $.
 any $a |- p $.
 other $a |- p $.
 """
+CHANGES = ("there", "new", "changed", "renamed", "proof", "gone")
 Row = tuple[object, ...]
 
 
@@ -79,18 +81,22 @@ class Log:
         """The database of the last revision."""
         return HEAD + "".join(each.text() for each in self.then[-1].values())
 
-    def life(self, label: str) -> list[Row]:
+    def life(self, label: str, behind: int | None = None) -> list[Row]:
         """What became of the theorem that has a label in the newest revision in which one has it:
-        the number of the revision, the label, what changed, and the label before."""
+        the number of the revision, the label, what changed, and the label before. Of the revisions
+        behind one of them, if it is given: what that one says is known."""
+        first = behind or 0
         newest = max(
             (place, number)
-            for place, each in enumerate(self.then)
+            for place, each in enumerate(self.then[first:])
             for number, one in each.items()
             if one.label == label
         )
         rows: list[Row] = []
-        before: Theorem | None = None
+        before: Theorem | None = None if behind is None else self.then[behind].get(newest[1])
         for place, each in enumerate(self.then):
+            if behind is not None and place <= behind:
+                continue
             now = each.get(newest[1])
             change = None if before == now else change_of(before, now, place)
             if change is not None:
@@ -126,28 +132,112 @@ class Life(Repositories):
             for row in self.rows(*words)
         ]
 
+    def made(self, seed: int) -> tuple[Log, list[str]]:
+        """Revisions that are made by chance, and their ids. The first one has no parent."""
+        log = Log(random.Random(seed))
+        log.begin()
+        self.git("checkout", "--quiet", "--orphan", f"seed{seed}")
+        commits = [self.commit(log.text())]
+        for _ in range(8):
+            log.add()
+            commits.append(self.commit(log.text()))
+        return log, commits
+
     def test_by_chance(self) -> None:
-        """The answer is what was done, for each label that there ever was."""
+        """The answer is what was done, for each label that there ever was. Of the revisions behind
+        one of them it is what was done in these, also in the first of them."""
         kinds: set[object] = set()
         for seed in range(8):
-            log = Log(random.Random(seed))
-            log.begin()
-            commits = [self.commit(log.text())]
-            for _ in range(8):
-                log.add()
-                commits.append(self.commit(log.text()))
-            within = f"{commits[0]}~1..{commits[-1]}"
-            commits = list(dict.fromkeys(commits))
-            labels = {each.label for then in log.then for each in then.values()}
-            for label in sorted(labels):
-                wanted = log.life(label)
-                found = [
-                    (commits.index(str(row["rev"])), row["theorem"], row["change"], row["was"])
-                    for row in self.rows("db.mm", within, "--of", label)
-                ]
-                self.assertEqual(without_gone(found), without_gone(wanted), (seed, label))
-                kinds.update(row[2] for row in found)
-        self.assertEqual(kinds, {"there", "new", "changed", "renamed", "proof", "gone"})
+            log, commits = self.made(seed)
+            behind = random.Random(seed).randrange(7)
+            for first, within in ((None, commits[-1]), (behind, f"{commits[behind]}..")):
+                then = log.then[first or 0 :]
+                for label in sorted({each.label for some in then for each in some.values()}):
+                    wanted = log.life(label, first)
+                    found = [
+                        (commits.index(str(row["rev"])), row["theorem"], row["change"], row["was"])
+                        for row in self.lives_in(within, label)
+                    ]
+                    told = (seed, first, label)
+                    self.assertEqual(without_gone(found), without_gone(wanted), told)
+                    kinds.update((first is None, row[2]) for row in found)
+        changes = {(is_all, change) for is_all in (True, False) for change in CHANGES}
+        self.assertEqual(kinds, changes - {(False, "there")})
+
+    def lives_in(self, within: str, label: str) -> list[dict[str, object]]:
+        """The rows about a statement. Where there is none, standard error says so."""
+        done = self.query("history", "--format=json", "db.mm", within, "--of", label)
+        why = f"mmquery: no revision of {within} of db.mm changed '{label}'\n"
+        self.assertEqual((done.status, done.err), (0, "" if done.rows() else why), done)
+        return done.rows()
+
+    def test_the_first_of_a_range(self) -> None:
+        """What it changed is told as of the others: by its first parent, also where the file had
+        another name there, or the theorem has gone since."""
+        self.commit(changed(BASE, ("zorn $p", "zorn3 $p")))
+        self.commit(BASE + ADDED)
+        self.git("mv", "db.mm", "set.mm")
+        self.commit(changed(BASE, FREED), "set.mm")
+        wanted = {
+            ("db.mm", "HEAD~3..HEAD~2", "zorn3"): [("zorn3", "renamed", "zorn")],
+            ("db.mm", "HEAD~3..HEAD~2", "zorn"): [("zorn3", "renamed", "zorn")],
+            ("db.mm", "HEAD~2..HEAD~1", "new"): [("new", "new", None)],
+            ("set.mm", "HEAD~1..", "new"): [("new", "gone", None)],
+            ("set.mm", "HEAD~1..", "axac3"): [("axac3", "proof", None)],
+            ("set.mm", "HEAD~1..", "zorn"): [("zorn", "below", None)],
+        }
+        for (path, within, label), rows in wanted.items():
+            told = self.told(path, within, "--of", label)
+            self.assertEqual([(row[0], *row[3:]) for row in told], rows, (within, label))
+        (row,) = self.rows("set.mm", "HEAD~1..", "--of", "zorn")
+        self.assertEqual(row["lost"], ["ax-ac2"])
+        told = self.told("db.mm", "HEAD~3..HEAD~2", "ax-ac2", "--of", "zorn")
+        wanted_rows = [("zorn3", None, None, "renamed", "zorn")]
+        self.assertEqual(told, [*wanted_rows, ("zorn3", "ax-ac2", True, None, None)])
+        why = "no revision in HEAD~2..HEAD~1 of db.mm has a statement 'x'"
+        self.refuses("history", "db.mm", "HEAD~2..HEAD~1", "--of", "x", why=why)
+
+    def test_the_first_parent_of_a_merge(self) -> None:
+        """A range that begins with a merge is compared with the branch into which it went."""
+        self.branch()
+        self.commit(changed(BASE, ("zorn $p", "zorn3 $p")))
+        self.git("checkout", "--quiet", "main")
+        self.ask("# nothing of the database\n")
+        self.git("merge", "--quiet", "--no-ff", "--no-edit", "work")
+        told = self.told("db.mm", "main~1..main", "--of", "zorn3")
+        self.assertEqual(told, [("zorn3", None, None, "renamed", "zorn")])
+
+    def test_the_first_one_of_the_file(self) -> None:
+        """Where the file isn't there before a range, standard error says so."""
+        self.commit(BASE, "other.mm")
+        done = self.query("history", "--format=json", "other.mm", "HEAD~1..", "--of", "zorn")
+        why = "before HEAD~1.. of other.mm nothing is known: there is no other.mm"
+        self.assertEqual((done.status, done.err), (0, f"mmquery: {why}\n"))
+        self.assertEqual([row["change"] for row in done.rows()], ["there"])
+        for path in ("db.mm", "other.mm"):
+            (row,) = self.rows(path, "HEAD", "--of", "zorn")
+            self.assertEqual(row["change"], "there")
+
+    def test_what_is_faulty_before_a_range(self) -> None:
+        """That has no row, so standard error says what it is. Whether the first revision ends the
+        fault or has it too is told, also where it lacks the statement."""
+        broken = changed(BASE, ("$= df-4 $.", "$= none $."))
+        for text in (broken, BASE, broken, broken + ADDED, BASE + ADDED):
+            self.commit(text)
+        for within, label, wanted in (
+            ("HEAD~4..HEAD~3", "zorn", [("there", True)]),
+            ("HEAD~2..HEAD~1", "zorn", [(None, False)]),
+            ("HEAD~4..", "new", [(None, True), (None, False), ("new", True)]),
+        ):
+            done = self.query("history", "--format=json", "db.mm", within, "--of", label)
+            told = [(row["change"], row["fault"] is None) for row in done.rows()]
+            self.assertEqual(told, wanted, (within, label))
+            why = rf"\Ammquery: before {within} of db.mm nothing is known: refused 10:\d+ E3\d\n\Z"
+            self.assertRegex(done.err, why)
+        (row,) = self.rows("db.mm", "HEAD~3..HEAD~1", "--of", "zorn")
+        self.assertRegex(str(row["fault"]), r"\Arefused 10:\d+ E3\d\Z")
+        why = "no revision in HEAD~4..HEAD~3 of db.mm has a statement 'new'"
+        self.refuses("history", "db.mm", "HEAD~4..HEAD~3", "--of", "new", why=why)
 
     def test_what_is_shown(self) -> None:
         first = self.git("rev-parse", "HEAD")
@@ -172,8 +262,27 @@ class Life(Repositories):
         self.commit(changed(BASE, ("$= df-4 $.", "$= none $.")))
         self.commit(changed(BASE, ("zorn $p", "zorn3 $p")))
         there, renamed = ("zorn", "there", None), ("zorn3", "renamed", "zorn")
-        self.assertEqual(self.lives("zorn3"), [there, ("zorn3", None, None), renamed])
-        self.assertEqual(self.lives("zorn"), [there, ("zorn", None, None), renamed])
+        for label in ("zorn3", "zorn"):
+            self.assertEqual(self.lives(label), [there, (None, None, None), renamed])
+
+    def test_no_label_in_a_fault(self) -> None:
+        """Which label a statement has in a faulty file isn't known, also where another one is asked
+        for, or the label is the same before and after it; in no form of answer."""
+        self.commit(changed(BASE, ("$= df-4 $.", "$= none $.")))
+        self.commit(changed(BASE, ("zorn $p", "zorn3 $p")))
+        self.commit(changed(BASE, ("zorn $p", "zorn3 $p"), ("$= df-4 $.", "$= none $.")))
+        self.commit(changed(BASE, ("zorn $p", "zorn3 $p")))
+        for words in ((), ("ax-ac2",), ("ax-1", "ax-ac2")):
+            rows = self.rows("db.mm", "HEAD", *words, "--of", "zorn3")
+            faulty = [row["theorem"] for row in rows if row["fault"] is not None]
+            self.assertEqual(faulty, [None, None] * max(1, len(words)))
+            sound = [row["theorem"] for row in rows if row["fault"] is None]
+            self.assertEqual({*sound}, {"zorn", "zorn3"})
+            command = ("history", "db.mm", "HEAD", *words, "--of", "zorn3", "--format")
+            for form, cell in (("csv", ""), ("tsv", ""), ("text", "-")):
+                lines = [line for line in self.answers(*command, form) if "refused" in line]
+                split = {"csv": ",", "tsv": "\t", "text": None}[form]
+                self.assertEqual({line.split(split)[2] for line in lines}, {cell}, form)
 
     def test_axioms(self) -> None:
         """With an AXIOM the theorem is followed too; a row without one is about the statement."""
@@ -228,15 +337,50 @@ class Life(Repositories):
     )
 
     def test_a_label_of_another(self) -> None:
-        """A label that was another statement's before is followed no further, as `compare` says."""
+        """A statement is followed where it had another label, as `compare` says; then it is told
+        besides that its label was another one's. Otherwise the label is followed."""
         swapped = changed(BASE, ("zorn $p", "x $p"), ("free $p", "zorn $p"))
         self.commit(swapped)
-        self.assertEqual(self.lives("zorn"), [("free", "there", None), ("zorn", "renamed", "free")])
+        wanted = [("free", "there", None), ("zorn", "renamed", "free"), ("zorn", "changed", None)]
+        self.assertEqual(self.lives("zorn"), wanted)
+        (*_, last) = self.rows("db.mm", "HEAD", "--of", "zorn")
+        both = ("|- ( q -> ( p -> ( p -> p ) ) )", "|- ( p -> ( p -> p ) )")
+        self.assertEqual((last["old"], last["new"]), both)
+        told = self.told("db.mm", "HEAD", "ax-1", "--of", "zorn")
+        self.assertEqual([row[3] for row in told], [None, "renamed", "changed"])
+        lines = self.answers("history", "db.mm", "HEAD", "--of", "zorn")
+        self.assertEqual(lines[-2:], [f"  was  {both[0]}", f"  is   {both[1]}"])
         self.assertEqual(self.lives("x"), [("zorn", "there", None), ("x", "renamed", "zorn")])
         taken = changed(BASE, ("zorn $p", "x $p")) + ADDED.replace("new", "zorn")
         self.git("reset", "--quiet", "--hard", "HEAD~1")
         self.commit(taken)
-        self.assertEqual(self.lives("zorn"), [("zorn", "new", None)])
+        self.assertEqual(self.lives("zorn"), [("zorn", "there", None), ("zorn", "changed", None)])
+        self.assertEqual(self.lives("x"), [("zorn", "there", None), ("x", "renamed", "zorn")])
+
+    def test_a_label_that_was_given_away(self) -> None:
+        """The old statement has a new label, and a weaker one the old label: it was changed. One
+        that was away in between is new."""
+        self.commit(changed(BASE, ("zorn $p", "zorn3 $p")))
+        self.commit(changed(BASE, FREED))
+        self.commit(changed(BASE, FREED, TAKEN))
+        rows = self.rows("db.mm", "HEAD", "--of", "free")
+        self.assertEqual([row["change"] for row in rows], ["there", "changed"])
+        told = tuple(rows[1][name] for name in ("theorem", "was", "differ", "old", "new"))
+        both = ("|- ( p -> ( p -> p ) )", "$e |- ( 2 + 2 ) = 4 $. |- ( p -> ( p -> p ) )")
+        self.assertEqual(told, ("free", None, "the hypotheses changed", *both))
+        (there, renamed) = self.rows("db.mm", "HEAD", "--of", "freelem")
+        self.assertEqual((there["theorem"], renamed["was"]), ("free", "free"))
+        without = changed(BASE, (TAKEN[0], ""))
+        self.commit(without)
+        self.commit(without + "free $p |- ( 2 + 2 ) = 4 $= df-4 $.\n")
+        self.assertEqual(self.lives("free"), [("free", "new", None)])
+
+    def test_labels_that_are_swapped(self) -> None:
+        swapped = {"zorn": "ax1", "ax1": "zorn"}
+        self.commit(re.sub(r"\S+", lambda word: swapped.get(word[0], word[0]), BASE))
+        for label, was in swapped.items():
+            wanted = [(was, "there", None), (label, "renamed", was), (label, "changed", None)]
+            self.assertEqual(self.lives(label), wanted)
 
     def lives(self, label: str) -> list[Row]:
         """The label, what changed, and the label before, in each row about a statement."""

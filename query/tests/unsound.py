@@ -226,13 +226,13 @@ DATABASES = [
         "no equation",
         FOO + "df-foo $a |- ( Foo = Foo -> F. ) $.\n",
         "cfoo cfoo wceq wfal cfoo eqid df-foo ax-mp",
-        {"df-foo": ("no", "form")},
+        {"df-foo": ("not judged", "form")},
     ),
     Unsound(
         "a condition",
         WFOO + "${ df-foo.1 $e |- ( ph -> ph ) $. df-foo $a |- ( Foo <-> ph ) $. $}\n",
         equal_to("wfoo", TRUE, "wfal id", f"{TRUE} {TRUE} id df-foo", "wfal wfal id df-foo"),
-        {"df-foo": ("no", "form")},
+        {"df-foo": ("not judged", "form")},
     ),
     Unsound(
         "a variable that is defined",
@@ -296,13 +296,13 @@ DATABASES = [
         "a dummy that is a formula",
         WFOO + "df-foo $a |- ( Foo <-> ph ) $.\n",
         equal_to("wfoo", TRUE, "wfal id", f"{TRUE} df-foo", "wfal df-foo"),
-        {"df-foo": ("not judged", "dummy")},
+        {"df-foo": ("no", "dummy")},
     ),
     Unsound(
         "a dummy that is a class",
         FOO + "df-foo $a |- Foo = A $.\n",
         both("cfoo", "c0 df-foo", "cvv df-foo"),
-        {"df-foo": ("not judged", "dummy")},
+        {"df-foo": ("no", "dummy")},
     ),
     Unsound(
         "a dummy that nothing binds",

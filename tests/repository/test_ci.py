@@ -199,7 +199,8 @@ class Script(Repositories):
         self.commit(BASE + ADDED)
         done = self.check()
         self.assertEqual((done.status, done.err), (0, ""), done)
-        self.assertRegex(done.out, r"\Apassed: [0-9a-f]{40}:db\.mm compared with main, ")
+        judged = r"[0-9a-f]{40}:db\.mm \([0-9a-f]{12}\)"
+        self.assertRegex(done.out, rf"\Apassed: {judged} compared with main, ")
         self.assertIn("new,theorem,new,", (self.kept / "changes.csv").read_text())
         self.assertIn("</html>", (self.kept / "page.html").read_text())
         self.assertIn("passed", (self.kept / "summary.md").read_text())

@@ -119,7 +119,7 @@ def header(level: int, title: str) -> str:
     return f"$(\n{line}\n  {title}\n{line}\n$)\n"
 
 
-AXIOMS = "ax-1 ax-2 ax-3 ax-10 ax-13 ax-ext ax-pr ax-reg ax-inf2 ax-cc ax-ac2 df-4 df-ss"
+AXIOMS = "ax-1 ax-2 ax-3 ax-10 ax-13 ax-ext ax-pr ax-reg ax-inf2 ax-cc ax-ac2 ax-groth df-4 df-ss"
 START = """$c wff |- ( -> ) $.
 $v p q $.
 wp $f wff p $.
@@ -176,7 +176,7 @@ class Commands(World):
 
     def test_the_stand_in(self) -> None:
         """It is a database of which the page's first example is true."""
-        self.assertIn("set.mm: valid, 19 axioms", self.query("verify", "set.mm").out)
+        self.assertIn("set.mm: valid, 20 axioms", self.query("verify", "set.mm").out)
         chain = "zorn numth3 cardeqv axac3 ax-ac2".split()
         self.assertEqual(self.answers("why", "set.mm", "zorn", "ax-ac2"), chain)
 

@@ -9,7 +9,7 @@ use Rattle.std.proofs.lemmas.List.{get_or_append_left, get_or-append-add, get_or
 use Rattle.std.proofs.lemmas.List.{get_or-set_other, length-set}
 use Rattle.mm_spec.specs.Derivation.{Formula, Trees, none, more, tree}
 use Rattle.mm_spec.specs.Nodes.{tree_count, HasNode, each_root}
-use Rattle.mm_spec.specs.Steps.{Step, label, marked}
+use Rattle.mm_spec.specs.Steps.{Step, marked}
 use Rattle.mm_spec.proofs.UniqueLaw.{◌⧺◌}
 use Rattle.mm_check.specs.Flags.{step_flags_after}
 use Rattle.mm_check.proofs.ForestsLaw.{last_tree}

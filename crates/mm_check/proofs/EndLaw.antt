@@ -1,6 +1,6 @@
 -- The beginning and the end of a proof.
 use Rattle.std.proofs.lemmas.Grind.{common_steps}
-use Rattle.std.proofs.Common.{◌≡◌, ℕ, ◌<◌, ◌∷◌, [], List, length, slice_get, Some, None, Option}
+use Rattle.std.proofs.Common.{ap, ◌≡◌, ℕ, ◌<◌, ◌∷◌, [], List, length, slice_get, Some, None, Option}
 use Rattle.std.proofs.Common.{Bool, sym, subst, inr, true, false, refl, true≢false, arith, ◌==◌}
 use Rattle.std.specs.Prelude.{Decides}
 use Rattle.std.specs.List.{list_any}
@@ -34,16 +34,19 @@ use Rattle.mm_check.proofs.ReachLaw.{end_derives, end_code_is_fault, proof_end_i
 module _ (db : List Statement) (t : ℕ) (steps : List PlacedStep) where
   -- no step is performed yet
   pub no_step_performed : (m : MachineState) (rules : RuleLists) (noted : List ℕ)
-      (cache : KnownPairs) → (variable_flags : List Bool) → AreOfDatabase db variable_flags rules
+      (cache : KnownPairs) (kept : List (ℕ × ℕ)) → (variable_flags : List Bool)
+      → AreOfDatabase db variable_flags rules
       → AreStepsOf db t steps → m ≡ machine_state [] [] [] variable_flags → noted ≡ []
-      → AreDisjointAt db t cache → HasPerformed db t steps 0 (checker_state m rules noted cache)
-  no_step_performed m rules noted cache variable_flags of_database steps_are machine_is noted_is_nil
-      are_disjoint_at =
+      → AreDisjointAt db t cache → kept ≡ []
+      → HasPerformed db t steps 0 (checker_state m rules noted cache kept)
+  no_step_performed m rules noted cache kept variable_flags of_database steps_are machine_is
+      noted_is_nil are_disjoint_at kept_is_nil =
       record {
         is_at_theorem = record {
           made_for = rw machine_is of_database;
           theorem_lt_length = t_lt_length (slice_get db t) refl steps_are.is_theorem;
           pairs_are_disjoint = are_disjoint_at;
+          are_kept = λ i i_lt. absurd (omega (arith, i_lt, ap length kept_is_nil));
         };
         are_steps = steps_are;
         has_run = no_step_has_run db t steps m noted variable_flags machine_is noted_is_nil;

@@ -1,7 +1,8 @@
 -- The state after one step more.
 use Rattle.std.proofs.lemmas.Grind.{common_steps}
-use Rattle.std.proofs.Common.{◌≡◌, ℕ, zero, suc, ◌+◌, ◌<◌, inl, inr, Bool, true, false, List, []}
-use Rattle.std.proofs.Common.{◌∷◌, ◌++◌, length, take, get_or, Some, Err, refl, sym, ap, ◌∙◌, subst}
+use Rattle.std.proofs.Common.{Result, OnOk, Ok, Err, ◌≡◌, ℕ, zero, suc, ◌+◌, ◌<◌, inl, inr, Bool}
+use Rattle.std.proofs.Common.{true, false, List, [], ◌∷◌, ◌++◌, length, take, get_or, Some}
+use Rattle.std.proofs.Common.{refl, sym, ap, ◌∙◌, subst}
 use Rattle.std.proofs.Common.{arith, All, slice_get, length-append, true≢false, eq-eqb}
 use Rattle.std.specs.List.{Contains}
 use Rattle.std.proofs.lemmas.List.Elements.{All-push, All-weaker, All-nil, Contains-push}
@@ -18,7 +19,7 @@ use Rattle.mm_machine.specs.State.{MachineState, machine_state, with_mark, reaso
 use Rattle.mm_machine.specs.declared.reason.StepRefused.{StepRefused}
 use Rattle.mm_machine.specs.declared.reason.StepRefused.TheVariants.{Fault, Memory}
 use Rattle.mm_check.specs.Contract.{IsReadyStep, IsRefusalOfSomeStep, refusal_at}
-use Rattle.mm_check.specs.Checker.{CheckerState, checker_state, IsAtTheorem, HasPerformed, Performs}
+use Rattle.mm_check.specs.Checker.{CheckerState, IsAtTheorem, HasPerformed, Performs}
 use Rattle.mm_check.specs.Checker.{IsStepRefusal}
 use Rattle.mm_check.specs.Reached.{IsReached, HasRun, AreEndFormulas, steps_of}
 use Rattle.mm_check.proofs.ReachLaw.{no_steps_are_reached, reached_after_step, take_step}
@@ -107,8 +108,9 @@ module _ (db : List Statement) (t : ℕ) (steps : List PlacedStep) (i : ℕ) (c 
       has_performed.has_run.marks_agree)))
 
   -- what is kept after the step
-  has_run_after_step : (d : CheckerState) (m : MachineState) (b : Bool) → is_marked steps i ≡ b
-      → Performs db t a c d → m ≡ with_mark b i d.machine → HasRun db t steps (i + 1) m d.noted
+  has_run_after_step : (d : CheckerState) (m : MachineState) (b : Bool)
+      → (is_marked steps i ≡ true → b ≡ true) → Performs db t a c d
+      → m ≡ with_mark b i d.machine → HasRun db t steps (i + 1) m d.noted
   has_run_after_step d m b is_b performs m_is =
       subst (λ o. HasRun db t steps (i + 1) o d.noted) (sym m_is) (has_run_with b is_b)
     where
@@ -152,7 +154,7 @@ module _ (db : List Statement) (t : ℕ) (steps : List PlacedStep) (i : ℕ) (c 
       earlier_is_kept j j_lt_i is_marked_j = subst (λ z. Contains z j) (sym performs.marks_stay)
           (has_performed.has_run.marked_are_kept j j_lt_i is_marked_j)
 
-      has_run_with : (b : Bool) → is_marked steps i ≡ b
+      has_run_with : (b : Bool) → (is_marked steps i ≡ true → b ≡ true)
           → HasRun db t steps (i + 1) (with_mark b i d.machine) d.noted
       has_run_with false not_marked = record {
         ends = ends;
@@ -163,9 +165,8 @@ module _ (db : List Statement) (t : ℕ) (steps : List PlacedStep) (i : ℕ) (c 
         marked_are_kept = λ j j_lt_suc_i is_marked_j. elim (cases_lt
             j i) [
               | inl j_lt_i ↦ earlier_is_kept j j_lt_i is_marked_j
-              | inr i_le_j ↦ absurd (true≢false
-                  (sym is_marked_j ∙ ap (is_marked steps) ((omega (arith, i_le_j, j_lt_suc_i)))
-                  ∙ not_marked))
+              | inr i_le_j ↦ absurd (true≢false (sym (not_marked (ap (is_marked steps)
+                  (omega (arith, i_le_j, j_lt_suc_i)) ∙ is_marked_j))))
             ];
       }
       has_run_with true is_marked_i = record {
@@ -186,15 +187,26 @@ module _ (db : List Statement) (t : ℕ) (steps : List PlacedStep) (i : ℕ) (c 
             ];
       }
 
-  pub has_performed_after_step : (d : CheckerState) (m : MachineState) (b : Bool)
-      → is_marked steps i ≡ b → Performs db t a c d → IsAtTheorem db t d
-      → m ≡ with_mark b i d.machine → m.variable_flags ≡ d.machine.variable_flags
-      → HasPerformed db t steps (i + 1) (checker_state m d.rules d.noted d.cache)
-  has_performed_after_step d m b is_b performs is_at_theorem m_is variables_stay = record {
-    is_at_theorem = rw variables_stay is_at_theorem;
+  pub has_performed_after_step : (d e : CheckerState) (b : Bool)
+      → (is_marked steps i ≡ true → b ≡ true) → Performs db t a c d
+      → e.machine ≡ with_mark b i d.machine → e.noted ≡ d.noted → IsAtTheorem db t e
+      → HasPerformed db t steps (i + 1) e
+  has_performed_after_step d e b is_b performs machine_is noted_is is_at_theorem = record {
+    is_at_theorem = is_at_theorem;
     are_steps = has_performed.are_steps;
-    has_run = has_run_after_step d m b is_b performs m_is;
+    has_run =
+        subst (HasRun db t steps (i + 1) e.machine) (sym noted_is)
+        (has_run_after_step d e.machine b is_b performs machine_is);
   }
+
+  -- the same where the step is marked, unless there is no memory for that
+  pub has_performed_if_marked : {T E : Type 0} (r : Result T E) (d e : CheckerState)
+      → Performs db t a c d → OnOk r (e.machine ≡ with_mark true i d.machine) → e.noted ≡ d.noted
+      → OnOk r (IsAtTheorem db t e) → OnOk r (HasPerformed db t steps (i + 1) e)
+  has_performed_if_marked (Ok x) d e performs machine_is noted_is is_at_theorem =
+      has_performed_after_step d e true (λ is_marked_i. refl) performs machine_is noted_is
+      is_at_theorem
+  has_performed_if_marked (Err x) d e performs machine_is noted_is is_at_theorem = tt
 
 -- no step so far
 pub no_step_has_run : (db : List Statement) (t : ℕ) (steps : List PlacedStep) (s : MachineState)

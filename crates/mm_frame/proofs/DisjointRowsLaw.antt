@@ -1,9 +1,10 @@
 -- How the rows of the `$d` are made, pair by pair.
 use Rattle.std.proofs.Common.{◌≡◌, ℕ, ◌+◌, ◌-◌, ◌<◌, ◌≤◌, Bool, true, ◌&&◌, ◌||◌, List, [], ◌∷◌}
-use Rattle.std.proofs.Common.{◌++◌, length, get_or, take, nat_eq, nat_lt, refl, sym, ap, ap₂, ◌∙◌}
-use Rattle.std.proofs.Common.{subst, arith, true≢false, ◌⊎◌, inl, inr}
+use Rattle.std.proofs.Common.{◌++◌, length, get_or, take, nat_eq, nat_lt, refl, sym, ap, ◌∙◌}
+use Rattle.std.proofs.Common.{subst, arith, true≢false, ◌⊎◌, inl, inr, eqb-true}
 use Rattle.std.proofs.Common.{map, Vec, false, set, drop, take_at}
-use Rattle.std.proofs.lemmas.Bool.{cases_lt, cases_eq, or_cases, and_parts, lt-ltb, le-ltb}
+use Rattle.std.proofs.lemmas.Bool.{cases_lt, cases_eq, or_cases, and_parts, lt-ltb}
+use Rattle.std.proofs.lemmas.Bool.{ltb-true}
 use Rattle.std.proofs.lemmas.Bool.Decides.{nat_tests}
 use Rattle.std.proofs.lemmas.List.{get_or_push, get_or_append_left, length_push, get_or-take}
 use Rattle.std.proofs.lemmas.List.{length-take-le, get_or_past, get_or-map, length-map}
@@ -11,17 +12,18 @@ use Rattle.std.proofs.lemmas.List.{get_or-set_same, get_or-set_other, length-set
 use Rattle.std.proofs.lemmas.List.Folds.{list_any_more, list_any-append}
 use Rattle.std.proofs.Math.Bool.{or-false}
 use Rattle.mm_spec.specs.Statement.{Statement}
-use Rattle.mm_spec.specs.Derivation.{is_member}
-use Rattle.mm_spec.specs.Frame.{formula_at}
 use Rattle.mm_outline.specs.Blocks.{BlockLists, end_of}
-use Rattle.mm_database.specs.Pairs.{has_pair, IsBefore, AreRising}
+use Rattle.mm_database.specs.Pairs.{has_pair, IsBefore}
 use Rattle.mm_database.specs.DisjointIndex.{HaveBlocks, IsRow, IsRowOfPairs, row_of}
 use Rattle.mm_database.specs.DisjointIndex.{has_narrow_pair, has_symbol_by_width}
 use Rattle.mm_database.proofs.DisjointIndexLaw.{index_of_pair, has_pair_at_index}
 use Rattle.mm_database.proofs.DisjointIndexLaw.{earlier_is_before}
-use Rattle.mm_frame.specs.Rows.{HasBlock, is_pair, is_lower_pair, IsLastOf, IsRowFor, AddsToRow}
-use Rattle.mm_frame.specs.Rows.{AreRowsFor, AddsToRows, AreAllKnown}
-use Rattle.mm_frame.proofs.ChainsLaw.{rising_append, member_of_one_more}
+use Rattle.mm_outline.specs.Blocks.{IsBlocks}
+use Rattle.mm_database.proofs.DisjointIndexLaw.{disjoint_has_block}
+use Rattle.mm_frame.specs.LowerLists.{DoStatementsRise}
+use Rattle.mm_frame.specs.Rows.{HasBlock, is_pair, IsLastOf, IsRowFor, AddsToRow}
+use Rattle.mm_frame.specs.Rows.{AreRowsFor, AreAllKnown}
+use Rattle.mm_frame.proofs.ChainsLaw.{rising_append}
 
 -- ---- one pair more in a row
 
@@ -220,137 +222,7 @@ empty_row b passes row row_is none_passes = rw row_is (record {
   };
 })
 
--- ---- the rows of several symbols
-
--- no pair of a rising list has a higher symbol than the last one
-pub symbol_le_last : (pairs : List (ℕ × ℕ)) → AreRising pairs → (i : ℕ) → i < length pairs
-    → (get_or pairs i (0, 0)).0 ≤ (get_or pairs (length pairs - 1) (0, 0)).0
-symbol_le_last pairs rising i i_lt_length = elim (cases_lt i (length pairs - 1)) [
-  | inl i_lt_last ↦ let before = earlier_is_before pairs rising i (length pairs - 1) (0, 0)
-      i_lt_last (omega (arith, i_lt_length)) in grind (arith, before)
-  | inr last_le_i ↦ let i_is_last : i ≡ length pairs - 1 = omega (arith, i_lt_length, last_le_i) in
-      rw i_is_last (omega arith)
-]
-
--- with the next pair of a rising list the test is that of one pair more
-module _ (db : List Statement) (pairs : List (ℕ × ℕ)) (i : ℕ) (i_lt_length : i < length pairs)
-  where
-    abbrev next_pair : ℕ × ℕ
-    next_pair = get_or pairs i (0, 0)
-
-    has_with_next : (y j : ℕ) → has_pair (take (i + 1) pairs) y j
-        ≡ (has_pair (take i pairs) y j || is_pair next_pair y j)
-    has_with_next y j = list_any_more (λ p. nat_eq y p.0 && nat_eq j p.1) pairs i (0, 0) i_lt_length
-
-    -- an earlier pair is before the next one
-    pub next_is_last : AreRising pairs → (x : ℕ)
-        → IsLastOf (is_lower_pair db (take i pairs) x) next_pair
-    next_is_last rising x y j is_lower =
-        let is_there = (and_parts (has_pair (take i pairs) y j)
-        (nat_lt x y && is_member (formula_at db j) x) is_lower).0 in
-        let found = index_of_pair (take i pairs) y j is_there in
-        let q = found.index in
-        let q_lt_taken = found.index_lt_length in
-        let taken_length = length-take-le i pairs (omega (arith, i_lt_length)) in
-        let q_lt_i : q < i = omega (arith, q_lt_taken, taken_length) in
-        inl (subst (λ (p : ℕ × ℕ). IsBefore p.0 p.1 next_pair.0 next_pair.1)
-        (sym (get_or-take i pairs q (0, 0) q_lt_i)
-        ∙ ap₂ (λ (a c : ℕ). (a, c)) found.first_is_x found.second_is_y)
-        (earlier_is_before pairs rising q i (0, 0) q_lt_i i_lt_length))
-
-    pub lower_with_next : (p : ℕ × ℕ) (xs : List ℕ) → p ≡ next_pair → xs ≡ formula_at db p.1
-        → (x y j : ℕ)
-        → (is_lower_pair db (take i pairs) x y j
-        || ((nat_lt x p.0 && is_member xs x) && is_pair p y j))
-        ≡ is_lower_pair db (take (i + 1) pairs) x y j
-    lower_with_next p xs p_is xs_are x y j = by_pair (is_pair p y j) refl
-      where
-        by_pair : (c : Bool) → is_pair p y j ≡ c
-            → (is_lower_pair db (take i pairs) x y j
-            || ((nat_lt x p.0 && is_member xs x) && is_pair p y j))
-            ≡ is_lower_pair db (take (i + 1) pairs) x y j
-        by_pair true is_it =
-            let (y_is, j_is) = are_of_pair p y j is_it in
-            grind (arith, has_with_next y j, is_it, p_is, xs_are, y_is, j_is)
-        by_pair false is_not = grind (arith, has_with_next y j, is_not, p_is)
-
--- all rows, and empty ones behind them
-module _ {A : Type 0} (db : List Statement) (b : BlockLists) (pairs : List (ℕ × ℕ))
-    (rows : List (Vec (ℕ × ℕ) A))
-    (are_pairs : (x j : ℕ) → has_pair pairs x j ≡ has_symbol_by_width db true x j)
-    (all_have_rows : (i : ℕ) → i < length pairs → (get_or pairs i (0, 0)).0 ≤ length rows)
-    (are_rows : AreRowsFor b (is_lower_pair db pairs) rows)
-  where
-    lower_is_narrow : (x y j : ℕ) → is_lower_pair db pairs x y j ≡ has_narrow_pair db x y j
-    lower_is_narrow x y j = grind (arith, nat_tests, are_pairs y j)
-
-    symbol_lt_rows : (x y j : ℕ) → has_narrow_pair db x y j ≡ true → x < length rows
-    symbol_lt_rows x y j passes =
-        let is_there : has_pair pairs y j ≡ true = grind (arith, passes, are_pairs y j) in
-        let found = index_of_pair pairs y j is_there in
-        let y_le = all_have_rows found.index found.index_lt_length in
-        let x_lt_y : x < y = grind (arith, nat_tests, passes) in
-        let y_is = found.first_is_x in
-        omega (arith, y_le, x_lt_y, y_is)
-
-    first_row : (vs : List (Vec (ℕ × ℕ) A)) → 0 < length vs → Vec (ℕ × ℕ) A
-    first_row [] is_some = absurd (omega (arith, is_some))
-    first_row (v ∷ vs) is_some = v
-
-    pub rows_of_all : (lists : List (List (ℕ × ℕ))) → lists ≡ map (λ v. v.items) rows → (x : ℕ)
-        → IsRow b (row_of lists x) × IsRowOfPairs b (has_narrow_pair db x) (row_of lists x)
-    rows_of_all lists lists_are x = elim (cases_lt x (length rows)) [
-      | inl x_lt ↦
-          let d = first_row rows (omega (arith, x_lt)) in
-          let row = row_of_equal_tests b (is_lower_pair db pairs x) (has_narrow_pair db x) _
-          (lower_is_narrow x) (are_rows x d x_lt) in
-          let row_is : row_of lists x ≡ (get_or rows x d).items =
-          ap (λ ls. row_of ls x) lists_are ∙ get_or-map (λ v. v.items) rows x d [] x_lt in
-          rw row_is (row.is_row, row.are_pairs)
-      | inr rows_le ↦
-          let count = ap length lists_are ∙ length-map rows (λ v. v.items) in
-          let row = empty_row b (has_narrow_pair db x) (row_of lists x)
-          (get_or_past lists x [] (omega (arith, rows_le, count)))
-          (λ y j passes. let x_lt = symbol_lt_rows x y j passes in omega (arith, x_lt, rows_le)) in
-          (row.is_row, row.are_pairs)
-    ]
-
--- ---- a pair in the rows of lower symbols
-
--- the pair is the last of those that pass, itself among them
-last_of_more : (passes : ℕ → ℕ → Bool) (p : ℕ × ℕ) (t : Bool) → IsLastOf passes p
-    → IsLastOf (λ y j. passes y j || (t && is_pair p y j)) p
-last_of_more passes p t is_last y j passes_more =
-    elim (or_cases (passes y j) (t && is_pair p y j) passes_more) [
-      | inl passes_it ↦ is_last y j passes_it
-      | inr is_more ↦ inr (are_of_pair p y j (and_parts t (is_pair p y j) is_more).1)
-    ]
-
--- the test of the first symbols of a list, and that of one more
-module _ (passes : ℕ → ℕ → ℕ → Bool) (p : ℕ × ℕ) (xs : List ℕ) (i d s : ℕ)
-    (i_lt_length : i < length xs) (s_is : s ≡ get_or xs i d)
-  where
-    abbrev so_far : ℕ → ℕ → ℕ → ℕ → Bool
-    so_far n x y j = passes x y j || ((nat_lt x p.0 && is_member (take n xs) x) && is_pair p y j)
-
-    with_symbol : s < p.0 → (x y j : ℕ)
-        → (so_far i x y j || (nat_eq x s && is_pair p y j)) ≡ so_far (i + 1) x y j
-    with_symbol s_lt x y j =
-        grind (
-          arith,
-          nat_tests,
-          lt-ltb s p.0 s_lt,
-          member_of_one_more (passes x) (λ z. nat_lt z p.0) xs i d s j i_lt_length s_is x,
-        )
-
-    without_symbol : p.0 ≤ s → (x y j : ℕ) → so_far i x y j ≡ so_far (i + 1) x y j
-    without_symbol p_le x y j =
-        grind (
-          arith,
-          nat_tests,
-          le-ltb s p.0 p_le,
-          member_of_one_more (passes x) (λ z. nat_lt z p.0) xs i d s j i_lt_length s_is x,
-        )
+-- ---- the rows of all symbols
 
 module _ {A : Type 0} (b : BlockLists) (p : ℕ × ℕ) where
   -- the row of symbol s was replaced
@@ -364,7 +236,7 @@ module _ {A : Type 0} (b : BlockLists) (p : ℕ × ℕ) where
             (are_known x d (subst (λ n. x < n) (length-set rows s row) x_lt))
       ]
 
-      rows_with_row : (passes : ℕ → ℕ → ℕ → Bool) → IsLastOf (passes s) p → (e : Vec (ℕ × ℕ) A)
+      pub rows_with_row : (passes : ℕ → ℕ → ℕ → Bool) → IsLastOf (passes s) p → (e : Vec (ℕ × ℕ) A)
           → AddsToRow b p (get_or rows s e).items row.items → AreRowsFor b passes rows
           → AreRowsFor b (λ x y j. passes x y j || (nat_eq x s && is_pair p y j)) (set rows s row)
       rows_with_row passes is_last e adds are_rows x d x_lt = elim (cases_eq x s) [
@@ -384,24 +256,134 @@ module _ {A : Type 0} (b : BlockLists) (p : ℕ × ℕ) where
   rows_of_equal_tests t u rows tests_equal are_rows x d x_lt =
       row_of_equal_tests b (t x) (u x) _ (tests_equal x) (are_rows x d x_lt)
 
-  module _ (xs : List ℕ) (i d s : ℕ) (i_lt_length : i < length xs) (s_is : s ≡ get_or xs i d)
-      (before rows : List (Vec (ℕ × ℕ) A)) (adds : AddsToRows b p (take i xs) before rows)
-    where
-      pub adds_with_symbol : s < p.0 → s < length rows → (row e : Vec (ℕ × ℕ) A)
-          → AddsToRow b p (get_or rows s e).items row.items
-          → AddsToRows b p (take (i + 1) xs) before (set rows s row)
-      adds_with_symbol s_lt_p s_lt row e adds_to_row passes is_last are_rows =
-          rows_of_equal_tests _ _ (set rows s row)
-          (with_symbol passes p xs i d s i_lt_length s_is s_lt_p)
-          (rows_with_row rows s row s_lt (so_far passes p xs i d s i_lt_length s_is i)
-          (last_of_more (passes s) p (nat_lt s p.0 && is_member (take i xs) s) (is_last s)) e
-          adds_to_row (adds passes is_last are_rows))
+-- with the next pair of a list each row has those of one pair more
+module _ (passes : ℕ → ℕ → ℕ → Bool) (high : ℕ) (list : List (ℕ × ℕ)) (i : ℕ)
+    (i_lt_length : i < length list)
+  where
+    abbrev next_pair : ℕ × ℕ
+    next_pair = get_or list i (0, 0)
 
-      pub adds_without_symbol : p.0 ≤ s → AddsToRows b p (take (i + 1) xs) before rows
-      adds_without_symbol p_le passes is_last are_rows =
-          rows_of_equal_tests _ _ rows
-          (without_symbol passes p xs i d s i_lt_length s_is p_le)
-          (adds passes is_last are_rows)
+    abbrev so_far : ℕ → ℕ → ℕ → ℕ → Bool
+    so_far n x y j = passes x y j || (nat_eq y high && has_pair (take n list) x j)
+
+    -- no statement of an earlier pair is later
+    earlier_statement_le : DoStatementsRise list → (x j : ℕ)
+        → has_pair (take i list) x j ≡ true → j ≤ next_pair.1
+    earlier_statement_le statements_rise x j is_there =
+        let found = index_of_pair (take i list) x j is_there in
+        let q = found.index in
+        let q_lt_taken = found.index_lt_length in
+        let taken_length = length-take-le i list (omega (arith, i_lt_length)) in
+        let q_lt_i : q < i = omega (arith, q_lt_taken, taken_length) in
+        let j_is : (get_or list q (0, 0)).1 ≡ j =
+        ap (λ (p : ℕ × ℕ). p.1) (sym (get_or-take i list q (0, 0) q_lt_i)) ∙ found.second_is_y in
+        let rises = statements_rise q i (omega (arith, q_lt_i)) i_lt_length in
+        omega (arith, j_is, rises)
+
+    pub next_is_last : ((x y j : ℕ) → passes x y j ≡ true → y < high) → DoStatementsRise list
+        → (x : ℕ) → IsLastOf (so_far i x) (high, next_pair.1)
+    next_is_last are_lower statements_rise x y j passes_it =
+        elim (or_cases (passes x y j) (nat_eq y high && has_pair (take i list) x j) passes_it) [
+          | inl is_earlier ↦ inl (inl (are_lower x y j is_earlier))
+          | inr is_of_list ↦
+              let (y_eq, is_there) = and_parts (nat_eq y high) (has_pair (take i list) x j)
+              is_of_list in
+              let y_is : y ≡ high = eqb-true y high y_eq in
+              let j_le = earlier_statement_le statements_rise x j is_there in
+              elim (cases_eq j next_pair.1) [
+                | inl j_is ↦ inr (y_is, j_is)
+                | inr j_isnt ↦ inl (inr (y_is, omega (arith, j_le, j_isnt)))
+              ]
+        ]
+
+    pub rows_with_next : (x y j : ℕ)
+        → (so_far i x y j || (nat_eq x next_pair.0 && is_pair (high, next_pair.1) y j))
+        ≡ so_far (i + 1) x y j
+    rows_with_next x y j =
+        let more = list_any_more (λ p. nat_eq x p.0 && nat_eq j p.1) list i (0, 0) i_lt_length in
+        grind (arith, more)
+
+-- the rows of the symbols so far, with those of one symbol more
+module _ (db : List Statement) (high : ℕ) (list : List (ℕ × ℕ))
+    (members_are : (x j : ℕ) → has_pair list x j ≡ has_narrow_pair db x high j)
+  where
+    abbrev is_below : ℕ → ℕ → ℕ → ℕ → Bool
+    is_below n x y j = nat_lt y n && has_narrow_pair db x y j
+
+    pub rows_with_list : (x y j : ℕ)
+        → (is_below high x y j || (nat_eq y high && has_pair list x j)) ≡ is_below (high + 1) x y j
+    rows_with_list x y j = elim (cases_eq y high) [
+      | inl y_is ↦ rw y_is (grind (arith, nat_tests, members_are x j))
+      | inr y_isnt ↦ grind (arith, nat_tests, y_isnt)
+    ]
+
+    pub below_are_lower : (x y j : ℕ) → is_below high x y j ≡ true → y < high
+    below_are_lower x y j is_lower =
+        ltb-true y high (and_parts (nat_lt y high) (has_narrow_pair db x y j) is_lower).0
+
+    -- a pair of the list
+    narrow_of_list : (p : ℕ) → p < length list
+        → has_narrow_pair db (get_or list p (0, 0)).0 high (get_or list p (0, 0)).1 ≡ true
+    narrow_of_list p p_lt =
+        sym (members_are (get_or list p (0, 0)).0 (get_or list p (0, 0)).1)
+        ∙ has_pair_at_index list p (0, 0) p_lt
+
+    symbols_of_narrow : (x y j : ℕ) → has_narrow_pair db x y j ≡ true
+        → (has_symbol_by_width db true x j ≡ true) × (has_symbol_by_width db true y j ≡ true)
+    symbols_of_narrow x y j is_narrow_pair =
+        (grind (arith, is_narrow_pair), grind (arith, is_narrow_pair))
+
+    pub list_has_rows : (n : ℕ)
+        → ((x j : ℕ) → has_symbol_by_width db true x j ≡ true → x < n)
+        → (p : ℕ) → p < length list → (get_or list p (0, 0)).0 < n
+    list_has_rows n all_lt p p_lt =
+        all_lt (get_or list p (0, 0)).0 (get_or list p (0, 0)).1
+        (symbols_of_narrow _ high _ (narrow_of_list p p_lt)).0
+
+    pub list_has_blocks : (b : BlockLists) → IsBlocks db b → HaveBlocks b list
+    list_has_blocks b are_blocks p p_lt =
+        disjoint_has_block db b are_blocks true high (get_or list p (0, 0)).1
+        (symbols_of_narrow _ high _ (narrow_of_list p p_lt)).1
+
+-- where all symbols have a list, all pairs are below the count of lists
+pub all_pairs_are_below : (db : List Statement) (n : ℕ)
+    → ((x j : ℕ) → has_symbol_by_width db true x j ≡ true → x < n) → (x y j : ℕ)
+    → (nat_lt y n && has_narrow_pair db x y j) ≡ has_narrow_pair db x y j
+all_pairs_are_below db n all_lt x y j = by_pair (has_narrow_pair db x y j) refl
+  where
+    by_pair : (c : Bool) → has_narrow_pair db x y j ≡ c
+        → (nat_lt y n && has_narrow_pair db x y j) ≡ has_narrow_pair db x y j
+    by_pair true is_narrow_pair =
+        let y_lt = all_lt y j (grind (arith, is_narrow_pair)) in
+        grind (arith, lt-ltb y n y_lt)
+    by_pair false is_none = grind (arith, is_none)
+
+-- all rows, and empty ones behind them
+module _ {A : Type 0} (db : List Statement) (b : BlockLists) (rows : List (Vec (ℕ × ℕ) A))
+    (all_have_rows : (x j : ℕ) → has_symbol_by_width db true x j ≡ true → x < length rows)
+    (are_rows : AreRowsFor b (has_narrow_pair db) rows)
+  where
+    first_row : (vs : List (Vec (ℕ × ℕ) A)) → 0 < length vs → Vec (ℕ × ℕ) A
+    first_row [] is_some = absurd (omega (arith, is_some))
+    first_row (v ∷ vs) is_some = v
+
+    pub rows_of_all : (lists : List (List (ℕ × ℕ))) → lists ≡ map (λ v. v.items) rows → (x : ℕ)
+        → IsRow b (row_of lists x) × IsRowOfPairs b (has_narrow_pair db x) (row_of lists x)
+    rows_of_all lists lists_are x = elim (cases_lt x (length rows)) [
+      | inl x_lt ↦
+          let d = first_row rows (omega (arith, x_lt)) in
+          let row = are_rows x d x_lt in
+          let row_is : row_of lists x ≡ (get_or rows x d).items =
+          ap (λ ls. row_of ls x) lists_are ∙ get_or-map (λ v. v.items) rows x d [] x_lt in
+          rw row_is (row.is_row, row.are_pairs)
+      | inr rows_le ↦
+          let count = ap length lists_are ∙ length-map rows (λ v. v.items) in
+          let row = empty_row b (has_narrow_pair db x) (row_of lists x)
+          (get_or_past lists x [] (omega (arith, rows_le, count)))
+          (λ y j passes. let x_lt = all_have_rows x j (grind (arith, passes)) in
+          omega (arith, x_lt, rows_le)) in
+          (row.is_row, row.are_pairs)
+    ]
 
 -- the slice of a whole list that was written to
 pub written_whole : {X : Type 0} (old new : List X) (n : ℕ) → length new ≡ length old
@@ -409,15 +391,18 @@ pub written_whole : {X : Type 0} (old new : List X) (n : ℕ) → length new ≡
 written_whole old new n length_stays length_is =
     take_at new (drop (length new) old) n (length_stays ∙ length_is)
 
--- without rows none is wrong, whatever is asked of them, and so it is with rows without pairs
+-- without pairs no row is wrong, whatever is asked of them
 module _ {A : Type 0} (b : BlockLists) (rows : List (Vec (ℕ × ℕ) A))
     (are_empty : (x : ℕ) (d : Vec (ℕ × ℕ) A) → x < length rows → (get_or rows x d).items ≡ [])
   where
     pub empty_are_known : AreAllKnown b rows
     empty_are_known x d x_lt = rw (are_empty x d x_lt) (λ p p_lt. absurd (omega (arith, p_lt)))
 
-    pub empty_are_rows : (db : List Statement) (pairs : List (ℕ × ℕ))
-        → AreRowsFor b (is_lower_pair db (take 0 pairs)) rows
-    empty_are_rows db pairs x d x_lt =
-        empty_row b (is_lower_pair db (take 0 pairs) x) (get_or rows x d).items
-        (are_empty x d x_lt) (λ y j passes. absurd (true≢false (sym passes)))
+    pub empty_are_rows : (db : List Statement)
+        → AreRowsFor b (λ x y j. nat_lt y 0 && has_narrow_pair db x y j) rows
+    empty_are_rows db x d x_lt =
+        empty_row b (λ y j. nat_lt y 0 && has_narrow_pair db x y j) (get_or rows x d).items
+        (are_empty x d x_lt)
+        (λ y j passes. let is_lower = (and_parts (nat_lt y 0) (has_narrow_pair db x y j) passes).0 in
+        let y_lt = ltb-true y 0 is_lower in
+        omega (arith, y_lt))

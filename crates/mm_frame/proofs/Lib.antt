@@ -3,8 +3,9 @@
 -- `candidate_at_latest` and `walked_is_active` (`LatestLaw.antt`) find the active `$e`,
 -- `found_are_mandatory_variables` the variables, and `hypotheses_are_mandatory`
 -- (`HypothesesLaw.antt`) the hypotheses. `has_symbol_with_disjoint` and `pairs_with_symbol`
--- (`ChainsLaw.antt`) give the `$d` by variables. `row_with_pair` and `row_without_pair`
--- (`DisjointRowsLaw.antt`) make the rows of the narrow ones, and `rows_of_all` says that they are
+-- (`ChainsLaw.antt`) give the wide `$d` by variables. `pairs_with_statement`
+-- (`LowerListsLaw.antt`) gives the lists of the narrow ones, from which `row_with_pair` and
+-- `row_without_pair` (`DisjointRowsLaw.antt`) make the rows, and `rows_of_all` says that they are
 -- those of all symbols. With `have_blocks` of `mm_database` they give `IsDisjointIndex`.
 -- `pairs_are_mandatory_pairs` (`MandatoryPairsLaw.antt`) gives the pairs. `wide_are_listed` and
 -- `rows_are_listed` (`SymbolFactsLaw.antt`) say that only variables that may be in an active `$d`
@@ -27,6 +28,7 @@ pub mod SkipsLaw
 pub mod HypothesesLaw
 pub mod ChainsLaw
 pub mod DisjointRowsLaw
+pub mod LowerListsLaw
 pub mod NeighboursLaw
 pub mod StretchesLaw
 pub mod SymbolFactsLaw

@@ -7,3 +7,4 @@ pub mod Stretches
 pub mod Neighbours
 pub mod SymbolFacts
 pub mod Rows
+pub mod LowerLists

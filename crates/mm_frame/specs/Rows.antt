@@ -1,9 +1,6 @@
 -- How the rows of the narrow `$d` are made, pair by pair.
 use Rattle.std.specs.Prelude.{◌≡◌, ◌⊎◌, ℕ, ◌<◌, Bool, true, ◌&&◌, ◌||◌, List, length, get_or}
-use Rattle.std.specs.Prelude.{nat_eq, nat_lt, Vec}
-use Rattle.mm_spec.specs.Statement.{Statement}
-use Rattle.mm_spec.specs.Derivation.{is_member}
-use Rattle.mm_spec.specs.Frame.{formula_at}
+use Rattle.std.specs.Prelude.{nat_eq, Vec}
 use Rattle.mm_outline.specs.Blocks.{BlockLists}
 use Rattle.mm_database.specs.Pairs.{has_pair, IsBefore}
 use Rattle.mm_database.specs.DisjointIndex.{HaveBlocks, IsRow, IsRowOfPairs}
@@ -15,11 +12,6 @@ HasBlock b p = (p.1 < length b.block_of) × (get_or b.block_of p.1 0 < length b.
 -- whether the two are the pair
 abbrev pub is_pair : ℕ × ℕ → ℕ → ℕ → Bool
 is_pair p y j = nat_eq y p.0 && nat_eq j p.1
-
--- whether the pair of y and j is one of these, and x is lower than y and in the `$d` j
-abbrev pub is_lower_pair : List Statement → List (ℕ × ℕ) → ℕ → ℕ → ℕ → Bool
-is_lower_pair db pairs x y j =
-    has_pair pairs y j && (nat_lt x y && is_member (formula_at db j) x)
 
 -- the pair is behind all pairs that pass the test, or the last of them
 abbrev pub IsLastOf : (ℕ → ℕ → Bool) → ℕ × ℕ → Type 0
@@ -50,9 +42,11 @@ module _ (b : BlockLists) where
         (x : ℕ) (d : Vec (ℕ × ℕ) A) → x < length rows
         → IsRowFor (passes x) (get_or rows x d).items
 
-    -- the pair is added to the rows of the symbols that are lower than its own
-    abbrev pub AddsToRows : ℕ × ℕ → List ℕ → List (Vec (ℕ × ℕ) A) → List (Vec (ℕ × ℕ) A) → Type 0
-    AddsToRows p symbols old new =
-        (passes : ℕ → ℕ → ℕ → Bool) → ((x : ℕ) → IsLastOf (passes x) p) → AreRowsFor passes old
-        → AreRowsFor (λ x y j. passes x y j
-        || ((nat_lt x p.0 && is_member symbols x) && is_pair p y j)) new
+    -- The pairs of the list are added to the rows: the pair of x and j to the row of x, as the one
+    -- of `high` and j. No row has a symbol that isn't lower than `high`.
+    abbrev pub AddsListToRows : ℕ → List (ℕ × ℕ) → List (Vec (ℕ × ℕ) A) → List (Vec (ℕ × ℕ) A)
+        → Type 0
+    AddsListToRows high list old new =
+        (passes : ℕ → ℕ → ℕ → Bool) → ((x y j : ℕ) → passes x y j ≡ true → y < high)
+        → AreRowsFor passes old
+        → AreRowsFor (λ x y j. passes x y j || (nat_eq y high && has_pair list x j)) new

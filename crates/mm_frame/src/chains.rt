@@ -1,4 +1,4 @@
-//! The `$d` statements of each symbol, found without a sort: a walk over the statements from the
+//! The wide `$d` of each symbol, found without a sort: a walk over the statements from the
 //! last to the first puts each `$d` in front of the chains of its symbols. So each chain is in
 //! ascending order. These chains are no chains of citations.
 
@@ -87,7 +87,7 @@ fn add_links<A: Allocator>(
 }
 
 /// Whether a statement is a narrow `$d`, or a wide one.
-fn is_disjoint_by_width<A: Allocator>(
+pub(crate) fn is_disjoint_by_width<A: Allocator>(
     statements: &Statements<A>,
     statement: u32,
     narrow: bool,
@@ -106,20 +106,19 @@ fn is_disjoint_by_width<A: Allocator>(
     }
 }
 
-/// Returns the narrow `$d` of each symbol, or the wide ones.
+/// Returns the wide `$d` of each symbol.
 pub(crate) fn chains_of<A: Allocator + Copy>(
     alloc: A,
     statements: &Statements<A>,
-    narrow: bool,
 ) -> Result<Chains<A>, AllocError>
     ensures head_count_is { IfOk result
         (λ c. length c.heads.items ≡ length (symbol_names statements.now.list)) }
     ensures symbols_have_heads { IfOk result
-        (λ c. (x j : ℕ) → has_symbol_by_width statements.now.list narrow x j ≡ true
+        (λ c. (x j : ℕ) → has_symbol_by_width statements.now.list false x j ≡ true
         → x < length c.heads.items) }
     ensures are_linked { IfOk result (λ c. AreLinked c.heads.items c.links.items) }
     ensures are_chains { IfOk result
-        (λ c. AreChains (has_symbol_by_width statements.now.list narrow) 0 c.heads.items
+        (λ c. AreChains (has_symbol_by_width statements.now.list false) 0 c.heads.items
         c.links.items) }
 {
     let heads = vec![in alloc; 0; statements.symbol_count() as usize]?;
@@ -130,7 +129,7 @@ pub(crate) fn chains_of<A: Allocator + Copy>(
     let mut statement = statements.len();
     while statement > 0 {
         statement -= 1;
-        if is_disjoint_by_width(statements, statement, narrow) {
+        if is_disjoint_by_width(statements, statement, false) {
             add_links(statements.formula(statement), statement, &mut chains)?;
         }
     }
@@ -158,20 +157,19 @@ pub(crate) fn add_chain<A: Allocator>(
     Ok(())
 }
 
-/// Returns for each symbol and each narrow, or wide, `$d` that has it the two, the symbol first, in
-/// ascending order.
+/// Returns for each symbol and each wide `$d` that has it the two, the symbol first, in ascending
+/// order.
 pub(crate) fn pairs_by_symbol<A: Allocator + Copy>(
     alloc: A,
     statements: &Statements<A>,
-    narrow: bool,
 ) -> Result<Vec<(u32, u32), A>, AllocError>
     ensures rising { IfOk result (λ v. AreRising v.items) }
     ensures members_are { IfOk result (λ v. (x j : ℕ) → has_pair v.items x j
-        ≡ has_symbol_by_width statements.now.list narrow x j) }
+        ≡ has_symbol_by_width statements.now.list false x j) }
     ensures symbols_have_numbers { IfOk result (λ v. (x j : ℕ) → has_pair v.items x j ≡ true
         → x < length (symbol_names statements.now.list)) }
 {
-    let chains = chains_of(alloc, statements, narrow)?;
+    let chains = chains_of(alloc, statements)?;
     let mut by_symbol = Vec::with_capacity(alloc, chains.links.len())?;
     for symbol in 0..statements.symbol_count() {
         add_chain(&chains, symbol, &mut by_symbol)?;

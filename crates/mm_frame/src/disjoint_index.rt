@@ -93,7 +93,7 @@ pub(crate) fn disjoint_index_of<A: Allocator + Copy>(
         (λ m. IsDisjointIndex statements.now.list statements.now.blocks m) }
 {
     let rows = disjoint_rows(alloc, statements)?;
-    let by_symbol = pairs_by_symbol(alloc, statements, false)?;
+    let by_symbol = pairs_by_symbol(alloc, statements)?;
     let skips = skips_of(alloc, statements.blocks(), &by_symbol)?;
     let starts = starts_of(alloc, &by_symbol)?;
     Ok(DisjointIndex::new(by_symbol, skips, starts, rows))

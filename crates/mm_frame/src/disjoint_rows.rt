@@ -1,22 +1,21 @@
 //! The rows of the narrow `$d`: for each symbol the pairs of a higher symbol and a `$d` that has
-//! both. They are made from the pairs of all symbols with their `$d`, in ascending order, so each
-//! row is in this order too.
+//! both, in ascending order. They come of lists that have for each symbol the lower ones, in the
+//! order of the statements: these are gone through symbol by symbol, and each pair is appended to
+//! the row of the lower one. So no row is sorted.
 
-ghost use Rattle.std.specs.Prelude.{◌≡◌, ◌<◌, ◌≤◌, ◌-◌, [], ℕ, List, IfOk, OnOk, length, get_or};
+ghost use Rattle.std.specs.Prelude.{◌≡◌, ◌<◌, ◌≤◌, ◌-◌, ◌^◌, ℕ, IfOk, OnOk, length, get_or};
 ghost use Rattle.std.specs.Prelude.{true, false};
 ghost use Rattle.mm_outline.specs.Blocks.{end_of};
 ghost use Rattle.mm_database.specs.DisjointIndex.{HaveBlocks, IsRow, IsRowOfPairs, row_of};
 ghost use Rattle.mm_database.specs.DisjointIndex.{has_narrow_pair, has_symbol_by_width};
-ghost use Rattle.mm_database.specs.Pairs.{has_pair, AreRising};
-ghost use Rattle.mm_frame.specs.Rows.{AddsToRow, AddsToRows, AreAllKnown, AreRowsFor, HasBlock};
-ghost use Rattle.mm_frame.specs.Rows.{is_lower_pair};
+ghost use Rattle.mm_frame.specs.LowerLists.{AreLowerLists, DoStatementsRise};
+ghost use Rattle.mm_frame.specs.Rows.{AddsListToRows, AddsToRow, AreAllKnown, AreRowsFor, HasBlock};
 
-use crate::chains::pairs_by_symbol;
 use crate::disjoint_index::is_covered;
+use crate::lower_lists::{empty_lists, lower_lists};
 use mm_database::statements::Statements;
 use mm_lists::Lists;
 use mm_outline::blocks::Blocks;
-use mm_outline::symbol::Sym;
 use std::alloc::{AllocError, Allocator};
 
 /// Whether the last pair of a row, if there is one, covers the pair.
@@ -59,77 +58,47 @@ fn add_to_row<A: Allocator>(
     Ok(())
 }
 
-/// Appends a pair to the rows of those symbols that are lower than its own.
-fn add_to_lower_rows<A: Allocator>(
+/// Appends the pairs of the list of the symbol `high` to the rows of the lower symbols.
+fn add_list_to_rows<A: Allocator>(
     blocks: &Blocks<A>,
-    pair: (u32, u32),
-    symbols: &[Sym],
+    high: u32,
+    list: &[(u32, u32)],
     rows: &mut [Vec<(u32, u32), A>],
 ) -> Result<(), AllocError>
-    requires all_have_rows { pair.0 ≤ length rows.old }
+    requires all_have_rows { (p : ℕ) → p < length list.now
+        → (get_or list.now p (0, 0)).0 < length rows.old }
+    requires statements_rise { DoStatementsRise list.now }
+    requires list_has_blocks { HaveBlocks blocks.now list.now }
     requires are_known { AreAllKnown blocks.now rows.old }
-    requires pair_has_block { HasBlock blocks.now pair }
     ensures row_count_stays { length rows.new ≡ length rows.old }
     ensures are_known { OnOk result (AreAllKnown blocks.now rows.new) }
-    ensures adds_to_rows { OnOk result
-        (AddsToRows blocks.now pair symbols.now rows.old rows.new) }
+    ensures adds_list { OnOk result
+        (AddsListToRows blocks.now high list.now rows.old rows.new) }
 {
-    for symbol in symbols {
-        if symbol.number() < pair.0 {
-            add_to_row(blocks, pair, &mut rows[symbol.number() as usize])?;
-        }
+    for pair in list {
+        add_to_row(blocks, (high, pair.1), &mut rows[pair.0 as usize])?;
     }
     Ok(())
 }
 
-/// So many rows without pairs.
-fn empty_rows<A: Allocator + Copy>(
-    alloc: A,
-    count: usize,
-) -> Result<Vec<Vec<(u32, u32), A>, A>, AllocError>
-    ensures count_is { IfOk result (λ v. length v.items ≡ count) }
-    ensures are_empty { IfOk result
-        (λ v. (x : ℕ) (d : _) → x < length v.items → (get_or v.items x d).items ≡ []) }
-{
-    let mut rows = Vec::with_capacity(alloc, count)?;
-    for _ in 0..count {
-        rows.push(Vec::new(alloc))?;
-    }
-    Ok(rows)
-}
-
-/// The number of rows that the pairs need: no symbol of theirs is higher than that of the last.
-fn row_count(by_symbol: &[(u32, u32)]) -> usize
-    requires { AreRising by_symbol.now }
-    ensures { (i : ℕ) → i < length by_symbol.now → (get_or by_symbol.now i (0, 0)).0 ≤ result }
-{
-    match by_symbol.last() {
-        None => 0,
-        Some(pair) => pair.0 as usize,
-    }
-}
-
-/// Returns the rows of the symbols that are lower than others, by all pairs of a symbol and a
-/// narrow `$d` that has it.
-fn rows_of_pairs<A: Allocator + Copy>(
+/// Returns the rows of the symbols, by the lists of the lower symbols, which are given back.
+fn rows_of_lists<A: Allocator + Copy>(
     alloc: A,
     statements: &Statements<A>,
-    by_symbol: &[(u32, u32)],
+    lists: Vec<Vec<(u32, u32), A>, A>,
 ) -> Result<Vec<Vec<(u32, u32), A>, A>, AllocError>
-    requires rising { AreRising by_symbol.now }
-    requires members_are { (x j : ℕ) → has_pair by_symbol.now x j
-        ≡ has_symbol_by_width statements.now.list true x j }
-    ensures all_have_rows { IfOk result
-        (λ v. (i : ℕ) → i < length by_symbol.now
-        → (get_or by_symbol.now i (0, 0)).0 ≤ length v.items) }
+    requires all_have_lists { (x j : ℕ)
+        → has_symbol_by_width statements.now.list true x j ≡ true → x < length lists.items }
+    requires few_lists { length lists.items ≤ 2 ^ 32 }
+    requires are_lists { AreLowerLists (λ y x j. has_narrow_pair statements.now.list x y j)
+        (length statements.now.list) lists.items }
+    ensures count_stays { IfOk result (λ v. length v.items ≡ length lists.items) }
     ensures are_rows { IfOk result
-        (λ v. AreRowsFor statements.now.blocks (is_lower_pair statements.now.list by_symbol.now)
-        v.items) }
+        (λ v. AreRowsFor statements.now.blocks (has_narrow_pair statements.now.list) v.items) }
 {
-    let mut rows = empty_rows(alloc, row_count(by_symbol))?;
-    for pair in by_symbol {
-        let symbols = statements.formula(pair.1);
-        add_to_lower_rows(statements.blocks(), *pair, symbols, &mut rows)?;
+    let mut rows = empty_lists(alloc, lists.len())?;
+    for high in 0..lists.len() {
+        add_list_to_rows(statements.blocks(), high as u32, &lists[high], &mut rows)?;
     }
     Ok(rows)
 }
@@ -143,11 +112,11 @@ pub(crate) fn disjoint_rows<A: Allocator + Copy>(
         (λ r. (x : ℕ) → IsRow statements.now.blocks (row_of r x)
         × IsRowOfPairs statements.now.blocks (has_narrow_pair statements.now.list x) (row_of r x)) }
 {
-    let by_symbol = pairs_by_symbol(alloc, statements, true)?;
-    let rows = rows_of_pairs(alloc, statements, &by_symbol)?;
-    let mut lists = Lists::new(alloc);
+    let lists = lower_lists(alloc, statements)?;
+    let rows = rows_of_lists(alloc, statements, lists)?;
+    let mut joined = Lists::new(alloc);
     for row in &rows {
-        lists.push(row)?;
+        joined.push(row)?;
     }
-    Ok(lists)
+    Ok(joined)
 }

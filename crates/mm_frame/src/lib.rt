@@ -11,6 +11,7 @@ pub mod disjoint_index;
 mod disjoint_rows;
 pub mod frames;
 pub mod hypotheses;
+mod lower_lists;
 mod neighbours;
 mod sources;
 pub mod stretches;

@@ -188,22 +188,29 @@ module _ {nodes : List (List ℕ)} {stack : List Entry} {marks : List ℕ} {mark
           (subst (All (λ s. s < length variable_flags)) (sym formula_is) (formula_at_in_range
           (length variable_flags) nodes marked i is_machine.marked_in_range i_lt))))
 
-      pub repeated_state : (step : ℕ) (s : MachineState)
+      pub repeated_state : (s : MachineState)
           → machine_state (entry_formulas nodes stack) marks (entry_formulas nodes marked)
-          variable_flags ≡ s → i < length marks → get_or marks i 0 ≡ step
-          → Repeats step s (machine_state (entry_formulas nodes (stack ++ e ∷ [])) marks
-          (entry_formulas nodes marked) variable_flags)
-      repeated_state step s s_is i_lt_marks is_mark =
-          subst (λ z. Repeats step z (machine_state (entry_formulas nodes (stack ++ e ∷ [])) marks
-          (entry_formulas nodes marked) variable_flags)) s_is (
-            i,
-            (omega (arith, length-map marked (entry_formula nodes), i_lt)),
-            i_lt_marks,
-            is_mark,
-            ap (λ fs. machine_state fs marks (entry_formulas nodes marked) variable_flags)
-                (entry_formulas_push nodes stack e ∙ ap (λ f. entry_formulas nodes stack ++ f ∷ [])
-                (formula_is ∙ entry_formula_is_at nodes marked i i_lt)),
-          )
+          variable_flags ≡ s
+          → machine_state (entry_formulas nodes (stack ++ e ∷ [])) marks
+          (entry_formulas nodes marked) variable_flags
+          ≡ machine_state (s.stack ++ get_or s.formulas i [] ∷ []) s.marks s.formulas
+          s.variable_flags
+      repeated_state s s_is =
+          ap (λ fs. machine_state fs marks (entry_formulas nodes marked) variable_flags)
+          (entry_formulas_push nodes stack e
+          ∙ ap (λ f. entry_formulas nodes stack ++ f ∷ [])
+          (formula_is ∙ entry_formula_is_at nodes marked i i_lt))
+          ∙ ap (λ s. machine_state (s.stack ++ get_or s.formulas i [] ∷ []) s.marks s.formulas
+          s.variable_flags) s_is
+
+-- the formula of a marked step is pushed
+pub repeats_if_pushed : {T E : Type 0} (r : Result T E) (step n : ℕ) (s t : MachineState)
+    → n < length s.formulas → n < length s.marks → get_or s.marks n 0 ≡ step
+    → OnOk r (t ≡ machine_state (s.stack ++ get_or s.formulas n [] ∷ []) s.marks s.formulas
+    s.variable_flags) → OnOk r (Repeats step s t)
+repeats_if_pushed (Ok x) step n s t has_formula is_there is_mark state_is =
+    (n, has_formula, is_there, is_mark, state_is)
+repeats_if_pushed (Err e) step n s t has_formula is_there is_mark state_is = tt
 
 pub top_is_last : (fs : List Formula) (i : ℕ) → length fs ≡ i + 1 → top fs ≡ get_or fs i []
 top_is_last [] i count_is = absurd (omega arith)

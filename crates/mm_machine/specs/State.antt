@@ -73,13 +73,6 @@ pub record IsMaskedMachine (nodes : List (List ℕ)) (stack : List Entry) (marks
   pub is_machine : IsMachine nodes stack marks marked floor o.variable_flags
   pub has_masks : HasMasks nodes stack marked o
 
--- The same of a machine that keeps long formulas which were pushed: their entries are as those of
--- marked steps, without marks.
-pub record IsKeepingMachine (nodes : List (List ℕ)) (stack : List Entry) (marks : List ℕ)
-    (marked long : List Entry) (floor : ℕ) (o : Owned) : Type 0 where
-  pub of_marked : IsMaskedMachine nodes stack marks marked floor o
-  pub of_long : IsMaskedMachine nodes stack [] long floor o
-
 abbrev pub reason_of : Reason → SpecReason
 reason_of TooFew = too_few
 reason_of Unmatched = unmatched

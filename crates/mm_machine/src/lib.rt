@@ -1,8 +1,8 @@
 //! The entries of a proof in progress. This layer holds the formula of an entry as a typecode and a
-//! string of nodes, so what replaces a variable isn't copied. It holds the nodes that the stack,
-//! the marked steps and some long formulas need, and gives up the others. It performs a step: it
-//! pushes the formula of a hypothesis, repeats a marked one, or applies a rule, whose premises it
-//! tests and takes away. It promises that the entries after a step are those of the definitions
+//! string of nodes, so what replaces a variable isn't copied. It holds the nodes that the stack
+//! and the marked steps need, and gives up the others. It performs a step: it pushes the formula
+//! of a hypothesis, repeats a marked one, or applies a rule, whose premises it tests and takes
+//! away. It promises that the entries after a step are those of the definitions
 //! (`Rattle.mm_machine.specs.State`), and that it refuses a step only for the reason for which the
 //! definitions refuse it.
 //!
@@ -16,7 +16,6 @@ mod entry;
 mod entry_match;
 mod entry_stack;
 mod flag_rows;
-mod long_formulas;
 mod machine;
 mod owners;
 mod reason;

@@ -17,7 +17,6 @@ use crate::distinct::DistinctVariables;
 use crate::entry::Entry;
 use crate::entry_match::has_symbols;
 use crate::entry_stack::{for_itself, for_top, replace_by_pair, replace_by_symbols};
-use crate::long_formulas::find_formula;
 use crate::owners::Owners;
 use crate::reason::{Reason, StepRefused};
 use crate::rule_step::apply_rule;
@@ -33,15 +32,8 @@ use std::marker::Model;
 /// modulo this.
 const MARK_SLOTS: usize = 4_096;
 
-/// A formula of so many symbols that is pushed again isn't made again.
-const LONG_FORMULA: usize = 64;
-
-/// So many long formulas of a proof are kept at most. Each that is pushed is compared with them.
-const MOST_LONG_FORMULAS: usize = 8;
-
-/// The entries, the formulas of the marked steps so far, and the long formulas that were pushed. A
-/// node stays as long as a marked step, a long formula, the stack or the step that is performed
-/// needs it, and all nodes before it stay as well.
+/// The entries, and the formulas of the marked steps so far. A node stays as long as a marked step,
+/// the stack or the step that is performed needs it, and all nodes before it stay as well.
 pub struct Machine<A: Allocator> {
     nodes: Nodes<A>,
     /// The entries, from bottom to top.
@@ -50,9 +42,7 @@ pub struct Machine<A: Allocator> {
     marks: Vec<usize, A>,
     /// For each of these steps the entry with which it ended.
     marked: Vec<Entry, A>,
-    /// The entries of the first long formulas that were pushed.
-    long: Vec<Entry, A>,
-    /// How many nodes the marked entries and those of long formulas need.
+    /// How many nodes the marked entries need.
     floor: usize,
     /// For each slot the index at which its mark may be in `marks`.
     slots: Vec<u32, A>,
@@ -74,7 +64,6 @@ impl<A: Allocator> Drop for Machine<A> {
             stack: _,
             marks: _,
             marked: _,
-            long: _,
             floor: _,
             slots: _,
             buffer: _,
@@ -87,15 +76,15 @@ impl<A: Allocator> Drop for Machine<A> {
 
 impl<A: Allocator> Model for Machine<A> {
     ghost use Rattle.mm_machine.specs.Entries.{entry_formulas};
-    ghost use Rattle.mm_machine.specs.State.{MachineState, machine_state, IsKeepingMachine};
+    ghost use Rattle.mm_machine.specs.State.{MachineState, machine_state, IsMaskedMachine};
 
     ghost Value = { MachineState };
 
     ghost view = { λ m. machine_state (entry_formulas m.nodes m.stack.items) m.marks.items
         (entry_formulas m.nodes m.marked.items) m.owners.variable_flags };
 
-    ghost invariant = { λ m. IsKeepingMachine m.nodes m.stack.items m.marks.items m.marked.items
-        m.long.items m.floor m.owners };
+    ghost invariant = { λ m. IsMaskedMachine m.nodes m.stack.items m.marks.items m.marked.items
+        m.floor m.owners };
 }
 
 /// The index of `mark` among `marks`, which are in ascending order: where the slots say, or
@@ -134,7 +123,6 @@ impl<A: Allocator> Machine<A> {
             stack: Vec::new(alloc),
             marks: Vec::new(alloc),
             marked: Vec::new(alloc),
-            long: Vec::new(alloc),
             floor: 0,
             slots,
             buffer: Vec::new(alloc),
@@ -152,7 +140,6 @@ impl<A: Allocator> Machine<A> {
         empty(&mut self.stack);
         empty(&mut self.marks);
         empty(&mut self.marked);
-        empty(&mut self.long);
         self.floor = 0;
         empty(&mut self.buffer);
         self.lists.empty();
@@ -178,51 +165,7 @@ impl<A: Allocator> Machine<A> {
             let symbol = Body::symbol(formula[1].number());
             return replace_by_pair(&self.nodes, &mut self.stack, below, typecode, symbol, both);
         }
-        if formula.len() < LONG_FORMULA {
-            return self.push_new(formula);
-        }
-        self.push_long(formula)
-    }
-
-    /// Pushes a long formula: the one that was made when it was pushed first.
-    #[cold]
-    #[inline(never)]
-    fn push_long(&mut self, formula: &[Sym]) -> Result<(), AllocError>
-        requires in_range { All (λ s. s < length self.old.variable_flags) formula.now }
-        requires length_le_limit { length formula.now ≤ formula_limit }
-        ensures pushes_formula { OnOk result
-            (self.new
-            ≡ machine_state (self.old.stack ++ formula.now ∷ []) self.old.marks self.old.formulas
-            self.old.variable_flags) }
-        ensures variables_stay { self.new.variable_flags ≡ self.old.variable_flags }
-    {
-        match find_formula(&self.nodes, &self.long, formula) {
-            Some(index) => {
-                let entry = for_top(&self.nodes, self.long[index]);
-                self.stack.push(entry)?;
-                Ok(())
-            }
-            None => {
-                self.push_new(formula)?;
-                if self.long.len() >= MOST_LONG_FORMULAS {
-                    return Ok(());
-                }
-                self.keep_top()
-            }
-        }
-    }
-
-    /// Keeps the top formula for when it is pushed again.
-    fn keep_top(&mut self) -> Result<(), AllocError>
-        requires { 0 < length self.old.stack }
-        ensures { self.new ≡ self.old }
-    {
-        let top = self.stack[self.stack.len() - 1];
-        let entry = for_itself(&self.nodes, top);
-        let needed = entry.needed as usize;
-        self.floor = self.floor.max(needed);
-        self.long.push(entry)?;
-        Ok(())
+        self.push_new(formula)
     }
 
     /// Makes a formula and pushes it.
@@ -251,12 +194,34 @@ impl<A: Allocator> Machine<A> {
         ensures variables_stay { self.new.variable_flags ≡ self.old.variable_flags }
     {
         let index = index_of_mark(&self.marks, step as usize, &self.slots);
+        self.push_marked(index)
+    }
+
+    /// Pushes the formula of the marked step with this index among them again.
+    #[inline(always)]
+    pub fn push_marked(&mut self, index: usize) -> Result<(), AllocError>
+        requires { index < length self.old.marks }
+        ensures pushes_formula { OnOk result
+            (self.new
+            ≡ machine_state (self.old.stack ++ get_or self.old.formulas index [] ∷ [])
+            self.old.marks self.old.formulas self.old.variable_flags) }
+        ensures formula_is_there { index < length self.old.formulas }
+        ensures variables_stay { self.new.variable_flags ≡ self.old.variable_flags }
+    {
         let entry = for_top(&self.nodes, self.marked[index]);
         self.stack.push(entry)?;
         Ok(())
     }
 
+    /// How many steps are marked.
+    pub fn mark_count(&self) -> usize
+        ensures count_is { result ≡ length self.now.marks }
+    {
+        self.marks.len()
+    }
+
     /// Adds the top formula, with which this step ended, to those of the marked steps.
+    #[inline(always)]
     pub fn mark(&mut self, step: usize) -> Result<(), AllocError>
         requires has_entry { 0 < length self.old.stack }
         requires marks_lt_step { All (λ j. j < step) self.old.marks }

@@ -1,11 +1,13 @@
 -- Symbols keep their numbers when statements are added.
-use Rattle.std.proofs.Common.{rules, ◌≡◌, ℕ, suc, ◌+◌, ◌<◌, ◌≤◌, true, ◌||◌, List, [], ◌∷◌, ◌++◌}
-use Rattle.std.proofs.Common.{length, map, flat_map, slice_get, None, Some, bytes_eq, refl, sym, ap}
-use Rattle.std.proofs.Common.{ap₂, ◌∙◌, arith, true≢false, append_assoc, append-nil}
+use Rattle.std.proofs.Common.{rules, ◌≡◌, ℕ, zero, suc, ◌+◌, ◌-◌, ◌<◌, ◌≤◌, Bool, true, false, ◌||◌}
+use Rattle.std.proofs.Common.{List, [], ◌∷◌, ◌++◌, length, map, flat_map, slice_get, slice_index}
+use Rattle.std.proofs.Common.{None, Some, bytes_eq, refl, sym, subst, ap, ap₂, ◌∙◌, arith}
+use Rattle.std.proofs.Common.{true≢false, append_assoc, append-nil}
 use Rattle.std.proofs.lemmas.Grind.{common_steps, flat_map-append}
 use Rattle.std.proofs.lemmas.Bool.Decides.{nat_tests}
 use Rattle.std.proofs.lemmas.List.{map-append, length-map}
 use Rattle.std.proofs.lemmas.Option.{slice_get_within, slice_get-get_or}
+use Rattle.std.specs.List.Sorted.{IsStrictlyIncreasing}
 use Rattle.mm_spec.specs.Text.{Bytes, is_in, words}
 use Rattle.std.proofs.Math.Bool.{or-true}
 use Rattle.mm_spec.specs.Statement.{Statement, symbols_of, opening}
@@ -15,7 +17,7 @@ use Rattle.mm_spec.specs.Frame.{first_occurrences, symbol_names, index_of, formu
 use Rattle.mm_spec.specs.declared.Word as spec
 use Rattle.mm_database.specs.Numbered.{AreNumbered}
 use Rattle.mm_outline.specs.Parts.{between, token_at}
-use Rattle.mm_spec.proofs.FindsLaw.{formula_at_place}
+use Rattle.mm_spec.proofs.FindsLaw.{equal_bytes_equal_words, formula_at_place}
 use Rattle.mm_outline.proofs.BetweenLaw.{between_with_one_more, nothing_between_place_and_itself}
 use Rattle.mm_lists.specs.Lists.{with_end}
 use Rattle.mm_database.specs.Names.{with_name}
@@ -41,7 +43,7 @@ index_of_in_front w [] added w_in_ns = absurd (true≢false (sym w_in_ns))
 index_of_in_front w (n ∷ ns) added w_in_ns = grind (arith, index_of_in_front w ns added)
 
 -- further words add names after those that there are, and change none of them
-first_occurrences_grow : (d ws : List Bytes)
+pub first_occurrences_grow : (d ws : List Bytes)
     → (added : List Bytes) × (first_occurrences [] (d ++ ws) ≡ first_occurrences [] d ++ added)
 first_occurrences_grow d [] = grind (arith, common_steps, append-nil)
 first_occurrences_grow d (w ∷ ws) =
@@ -197,3 +199,75 @@ pub names_with_word : (text : List ℕ) (ws : List spec.Word) (from i : ℕ) →
     ≡ first_occurrences [] (d ++ words (between text ws from (i + 1)))
 names_with_word text ws from i from_le_i i_lt_length d =
     grind (arith, common_steps, names_declared, append_assoc, words_between_push)
+
+-- ---- words with ascending numbers
+
+numbers_rise_behind_first : (x : ℕ) (xs : List ℕ) → IsStrictlyIncreasing (x ∷ xs)
+    → IsStrictlyIncreasing xs
+numbers_rise_behind_first x xs rises k k_lt_length =
+    let next_is : suc k + 1 ≡ suc (k + 1) = omega arith in
+    subst (λ n. slice_index xs k < slice_index (x ∷ xs) n) next_is (rises (suc k) (omega arith))
+
+-- the first word has a lower number than a later one
+first_lt_later : (number : Bytes → ℕ) (v : Bytes) (vs : List Bytes) (w : Bytes) (rest : List Bytes)
+    → IsStrictlyIncreasing (map number (v ∷ (vs ++ w ∷ rest))) → number v < number w
+first_lt_later number v [] w rest rises = rises 0 (omega arith)
+first_lt_later number v (u ∷ vs) w rest rises =
+    let next = rises 0 (omega arith) in
+    let u_lt_w = first_lt_later number u vs w rest
+    (numbers_rise_behind_first (number v) (map number (u ∷ (vs ++ w ∷ rest))) rises) in
+    omega (arith, next, u_lt_w)
+
+-- a word isn't among those before it
+later_is_new : (number : Bytes → ℕ) (vs : List Bytes) (w : Bytes) (rest : List Bytes)
+    → IsStrictlyIncreasing (map number (vs ++ w ∷ rest)) → is_in w vs ≡ false
+later_is_new number [] w rest rises = refl
+later_is_new number (v ∷ vs) w rest rises =
+    let later = later_is_new number vs w rest
+    (numbers_rise_behind_first (number v) (map number (vs ++ w ∷ rest)) rises) in
+    by_cases (bytes_eq w v) refl later
+  where
+    by_cases : (b : Bool) → bytes_eq w v ≡ b → is_in w vs ≡ false → (b || is_in w vs) ≡ false
+    by_cases true is_v later =
+        let v_lt_w = first_lt_later number v vs w rest rises in
+        absurd (omega (arith, v_lt_w, (ap number (equal_bytes_equal_words w v is_v))))
+    by_cases false is_other later = later
+
+-- the words up to a place begin with those before an earlier one and the word at that
+pub words_around : (text : List ℕ) (ws : List spec.Word) (from i n : ℕ) → from ≤ i
+    → i + 1 + n ≤ length ws
+    → (rest : List Bytes)
+    × (words (between text ws from (i + 1 + n))
+    ≡ words (between text ws from i) ++ (token_at text ws i).word ∷ rest)
+words_around text ws from i zero from_le_i end_le =
+    let end_is : i + 1 + 0 ≡ i + 1 = omega arith in (
+      [],
+      ap (λ k. words (between text ws from k)) end_is
+          ∙ sym (words_between_push text ws from i from_le_i (omega (arith, end_le))),
+    )
+words_around text ws from i (suc n) from_le_i end_le =
+    let around = words_around text ws from i n from_le_i (omega (arith, end_le)) in
+    let last = (token_at text ws (i + 1 + n)).word in (
+      around.0 ++ last ∷ [],
+      grind (
+        arith,
+        append_assoc,
+        (around.1),
+        (words_between_push text ws from (i + 1 + n) (omega arith) (omega (arith, end_le))),
+      ),
+    )
+
+-- where numbers ascend, no word is among those before it
+pub ascending_is_new : (text : List ℕ) (ws : List spec.Word) (ns : List Bytes) (from i to : ℕ)
+    (numbers : List ℕ)
+    → numbers ≡ numbers_in ns (between text ws from to) → from ≤ i → i < to → to ≤ length ws
+    → IsStrictlyIncreasing numbers
+    → is_in (token_at text ws i).word (words (between text ws from i)) ≡ false
+ascending_is_new text ws ns from i to numbers numbers_are from_le_i i_lt_to to_le rises =
+    let to_is : i + 1 + (to - (i + 1)) ≡ to = omega arith in
+    let around = words_around text ws from i (to - (i + 1)) from_le_i (omega arith) in
+    later_is_new (λ w. index_of w ns) (words (between text ws from i)) (token_at text ws i).word
+    around.0
+    (subst IsStrictlyIncreasing (numbers_are
+    ∙ ap (λ n. numbers_in ns (between text ws from n)) (sym to_is)
+    ∙ ap (map (λ w. index_of w ns)) around.1) rises)

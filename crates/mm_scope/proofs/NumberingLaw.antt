@@ -20,7 +20,7 @@ use Rattle.mm_spec.specs.Text.{Bytes, Token, is_in, words}
 use Rattle.mm_spec.specs.Scope.{depth, names_before}
 use Rattle.mm_spec.specs.Lawful.{least, scope_fault, scope_faults}
 use Rattle.mm_spec.specs.Statement.{Statement, symbols_of}
-use Rattle.mm_spec.specs.Frame.{formula_of, index_of, symbol_names}
+use Rattle.mm_spec.specs.Frame.{first_occurrences, formula_of, index_of, symbol_names}
 use Rattle.mm_spec.specs.declared.Word.{Word}
 use Rattle.mm_spec.specs.Laws.Table.{start, statements_from, statements_of}
 use Rattle.mm_spec.proofs.LongestLaw.{read_statements_are_longest}
@@ -39,13 +39,14 @@ use Rattle.mm_database.proofs.SymbolsLaw.{bytes_eq_itself, name_at_index_of}
 use Rattle.mm_database.proofs.SymbolsLaw.{missing_index_is_length}
 use Rattle.mm_scope.specs.Outlines.{AreOutlinesFrom}
 use Rattle.mm_scope.specs.declared.outlines.Rest.{Rest}
-use Rattle.mm_scope.specs.Formulas.{AreNumbersOnward, numbers_by, numbers_in}
+use Rattle.mm_scope.specs.Formulas.{AreNumbersOnward, IsNumberOnward, numbers_by, numbers_in}
 use Rattle.mm_scope.specs.Numbering.{numbers_up_to}
 use Rattle.mm_scope.specs.Scopes.{AreKnownAt}
 use Rattle.mm_scope.proofs.JudgeLaw.{bytes_eq_sym, length_between}
 use Rattle.mm_scope.proofs.BoundsLaw.{symbol_is_declared_name, symbols_le_tokens}
 use Rattle.mm_scope.proofs.OutlinesLaw.{from_element}
-use Rattle.mm_scope.proofs.NumberedLaw.{index_of_in_front, indices_equal, symbol_names_in_front}
+use Rattle.mm_scope.proofs.NumberedLaw.{first_occurrences_grow, index_of_in_front, indices_equal}
+use Rattle.mm_scope.proofs.NumberedLaw.{symbol_names_in_front, words_around}
 
 -- ---- elements of a list that is changed
 
@@ -245,6 +246,38 @@ number_at ns text ws first i to numbers numbers_are first_le_i i_lt_to to_le_len
     ∙ ap (token_of text) (get_or-take (to - first) (drop first ws) k no_word (omega arith)
     ∙ get_or-drop first ws k no_word ∙ ap (λ j. get_or ws j no_word) place)))
 
+-- where the names begin with those after the words of a list, the number of each word is one by
+-- names that begin with those before it
+pub number_among_declared : (text : List ℕ) (ws : List Word) (from i to : ℕ) (d names : List Bytes)
+    (numbers : List ℕ)
+    → AreNumbersOnward (first_occurrences [] (d ++ words (between text ws from to)))
+    (between text ws from to) numbers
+    → names ≡ first_occurrences [] (d ++ words (between text ws from i))
+    → from ≤ i → i < to → to ≤ length ws
+    → (default : ℕ)
+    → IsNumberOnward names (token_at text ws i).word (get_or numbers (i - from) default)
+number_among_declared text ws from i to d names numbers are_numbers names_are from_le_i i_lt_to
+    to_le default =
+    let w = (token_at text ws i).word in
+    let later = are_numbers.0 in
+    let to_is : i + 1 + (to - (i + 1)) ≡ to = omega arith in
+    let around = words_around text ws from i (to - (i + 1)) from_le_i (omega arith) in
+    let before = words (between text ws from i) in
+    let grown = first_occurrences_grow (d ++ before) (w ∷ around.0) in
+    let names_grow : first_occurrences [] (d ++ words (between text ws from to))
+    ≡ names ++ grown.0 =
+    ap (λ n. first_occurrences [] (d ++ words (between text ws from n))) (sym to_is)
+    ∙ ap (λ (vs : List Bytes). first_occurrences [] (d ++ vs)) around.1
+    ∙ ap (first_occurrences []) (sym (append_assoc d before (w ∷ around.0)))
+    ∙ grown.1
+    ∙ ap (λ (ns : List Bytes). ns ++ grown.0) (sym names_are) in (
+      grown.0 ++ later,
+      number_at (first_occurrences [] (d ++ words (between text ws from to)) ++ later) text ws from
+          i to numbers are_numbers.1 from_le_i i_lt_to to_le default
+          ∙ ap (λ (ns : List Bytes). index_of w (ns ++ later)) names_grow
+          ∙ ap (index_of w) (append_assoc names grown.0 later),
+    )
+
 -- ---- what is known of the symbols, by their numbers
 
 -- the index of a word that isn't among the first names is behind them
@@ -252,6 +285,32 @@ index_of_behind : (w : Bytes) (ns later : List Bytes) → is_in w ns ≡ false
     → index_of w (ns ++ later) ≡ length ns + index_of w later
 index_of_behind w [] later w_not_in = omega arith
 index_of_behind w (n ∷ ns) later w_not_in = grind (arith, common_steps, index_of_behind w ns later)
+
+-- a number by names that begin with these is an index among them, if it isn't behind them
+pub number_is_index : (w : Bytes) (names : List Bytes) (n : ℕ) → IsNumberOnward names w n
+    → n < length names
+    → n ≡ index_of w names
+number_is_index w names n (later, n_is) n_lt = by_cases (is_in w names) refl
+  where
+    by_cases : (b : Bool) → is_in w names ≡ b → n ≡ index_of w names
+    by_cases true w_in = n_is ∙ index_of_in_front w names later w_in
+    by_cases false w_not_in =
+        let behind = index_of_behind w names later w_not_in in
+        absurd (omega (arith, n_lt, n_is, behind))
+
+-- if it is behind them, the word isn't among them
+pub number_is_behind : (w : Bytes) (names : List Bytes) (n : ℕ) → IsNumberOnward names w n
+    → length names ≤ n
+    → length names ≤ index_of w names
+number_is_behind w names n (later, n_is) n_ge = by_cases (is_in w names) refl
+  where
+    by_cases : (b : Bool) → is_in w names ≡ b → length names ≤ index_of w names
+    by_cases true w_in =
+        let same = n_is ∙ index_of_in_front w names later w_in in
+        omega (arith, n_ge, same)
+    by_cases false w_not_in =
+        let missing = missing_index_is_length w names w_not_in in
+        omega (arith, missing)
 
 -- a word is the first one of a list that begins with it
 index_of_itself : (w : Bytes) → index_of w (w ∷ []) ≡ 0

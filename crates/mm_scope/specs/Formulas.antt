@@ -22,6 +22,10 @@ abbrev pub AreNumbersOnward : List Bytes → List Token → List ℕ → Type 0
 AreNumbersOnward names ts numbers =
     (later : List Bytes) × (numbers ≡ numbers_in (names ++ later) ts)
 
+-- the number of a word by names that begin with these
+abbrev pub IsNumberOnward : List Bytes → Bytes → ℕ → Type 0
+IsNumberOnward names w number = (later : List Bytes) × (number ≡ index_of w (names ++ later))
+
 -- the symbols of all statements, concatenated; the places between which those of each stand
 abbrev pub AreFormulas : List Statement → List ℕ → List ℕ → Type 0
 AreFormulas db numbers places = AreJoined (map (formula_of db) db) numbers places

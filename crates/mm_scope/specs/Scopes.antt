@@ -1,7 +1,7 @@
 -- What a scope says of words, of statements and of the names before the next statement.
 use Rattle.std.specs.Prelude.{◌≡◌, ◌<◌, ◌+◌, ℕ, List, [], ◌∷◌, ◌++◌, length, Option, None, true}
 use Rattle.std.specs.Prelude.{slice_get}
-use Rattle.mm_spec.specs.Text.{words}
+use Rattle.mm_spec.specs.Text.{Token, words}
 use Rattle.mm_spec.specs.Statement.{Statement, is_closing}
 use Rattle.mm_spec.specs.Scope.{Names, names_before, depth, constants_of, variables_of}
 use Rattle.mm_spec.specs.Lawful.{faults_at, least, scope_faults}
@@ -15,6 +15,7 @@ use Rattle.mm_outline.specs.declared.parts.Outline.{Outline}
 use Rattle.mm_database.specs.Names.{find, names_of}
 use Rattle.mm_database.specs.declared.names.SymbolEntry.{SymbolEntry}
 use Rattle.mm_scope.specs.declared.scope.Scope.{Scope}
+use Rattle.mm_scope.specs.Formulas.{AreNumbersOnward}
 use Rattle.mm_scope.specs.Knows.{Knows, fault_at}
 use Rattle.mm_scope.specs.WordEntry.{WordEntry, entry_of}
 use Rattle.mm_scope.specs.ReadSoFar.{KnowsStatements}
@@ -92,3 +93,9 @@ module _ {A : Type 0} where
   Declares old new ws =
       (d : List (List ℕ)) → names_in old ≡ first_occurrences [] d
       → names_in new ≡ first_occurrences [] (d ++ ws)
+
+  -- the numbers of tokens by names that begin with those of the scope and then the words ws
+  abbrev pub AreNumbersAfter : Scope A → List (List ℕ) → List Token → List ℕ → Type 0
+  AreNumbersAfter s ws ts numbers =
+      (d : List (List ℕ)) × (names_in s ≡ first_occurrences [] d)
+      × AreNumbersOnward (first_occurrences [] (d ++ ws)) ts numbers

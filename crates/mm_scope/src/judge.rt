@@ -2,6 +2,7 @@
 
 ghost use Rattle.std.specs.Prelude.{◌≡◌, ◌<◌, ◌≤◌, ◌++◌, [], length, OnOk, IfOk, ◌^◌, false, true};
 ghost use Rattle.std.specs.Prelude.{◌+◌, ◌-◌, ℕ, List, is_some, Some, if◌then◌else◌, bytes_eq};
+ghost use Rattle.std.specs.List.Sorted.{IsStrictlyIncreasing};
 ghost use Rattle.mm_spec.specs.Text.{is_in, words};
 ghost use Rattle.mm_spec.specs.Statement.{symbols_of};
 ghost use Rattle.mm_database.specs.Names.{find};
@@ -55,7 +56,7 @@ impl<'a, A: Allocator + Copy> Scope<'a, A> {
         least_found
     }
 
-    /// Returns the first fault of the symbols of a `$c`, `$v` or `$d`.
+    /// Returns the first fault of the symbols of a `$c`, `$v` or `$d`. `numbers` has their numbers.
     fn listed_symbols_fault(
         &self,
         alloc: A,
@@ -64,22 +65,29 @@ impl<'a, A: Allocator + Copy> Scope<'a, A> {
         kind: Kind,
         from: u32,
         to: u32,
+        numbers: &[Sym],
     ) -> Result<Option<Fault>, AllocError>
         requires tokens_within { AreWithin text.now tokens.now }
+        requires are_known { AreKnown self.now }
         requires from_le_to { from ≤ to }
         requires to_lt_length { to < length tokens.now }
+        requires are_numbers { AreNumbersOnward (names_in self.now)
+            (between text.now tokens.now from to) numbers.now }
         ensures { IfOk result
             (IsLeastFault self.now
             (λ n. faults_at_each (listed_codes n kind) [] (between text.now tokens.now from to))) }
     {
+        let are_ascending = ascend(numbers);
         let is_short = to - from <= MAX_WORDS_COMPARED;
         let mut seen = NameMap::new(alloc, self.names.keys());
         let mut least_found = None;
         for token_index in from..to {
-            let repeated = is_repeated(&mut seen, is_short, text, tokens, from, token_index)?;
+            let repeated = !are_ascending
+                && is_repeated(&mut seen, is_short, text, tokens, from, token_index)?;
             let token = tokens[token_index as usize];
             let word = token.bytes(text);
-            let code = self.listed_code(kind, word, repeated);
+            let symbol = self.symbol_at(numbers[(token_index - from) as usize]);
+            let code = self.listed_code(kind, word, symbol, repeated);
             least_found = lesser(least_found, fault_with_code(token.start, code));
         }
         Ok(least_found)
@@ -215,9 +223,9 @@ impl<'a, A: Allocator + Copy> Scope<'a, A> {
         match outline.kind {
             Kind::Open => Ok(None),
             Kind::Close => Ok(None),
-            Kind::Constants => self.listing_fault(alloc, text, tokens, depth, outline),
-            Kind::Variables => self.listing_fault(alloc, text, tokens, depth, outline),
-            Kind::Disjoint => self.listing_fault(alloc, text, tokens, depth, outline),
+            Kind::Constants => self.listing_fault(alloc, text, tokens, depth, outline, numbers),
+            Kind::Variables => self.listing_fault(alloc, text, tokens, depth, outline, numbers),
+            Kind::Disjoint => self.listing_fault(alloc, text, tokens, depth, outline, numbers),
             Kind::Floating => {
                 let fault_of_label = self.label_fault(text, tokens, keyword - 1);
                 Ok(lesser(
@@ -258,7 +266,7 @@ impl<'a, A: Allocator + Copy> Scope<'a, A> {
         lesser(fault_of_label, fault_of_formula)
     }
 
-    /// Returns the least fault of a `$c`, `$v` or `$d`.
+    /// Returns the least fault of a `$c`, `$v` or `$d`. `numbers` has the numbers of its symbols.
     fn listing_fault(
         &self,
         alloc: A,
@@ -266,10 +274,14 @@ impl<'a, A: Allocator + Copy> Scope<'a, A> {
         tokens: &[Word],
         depth: u32,
         outline: Outline,
+        numbers: &[Sym],
     ) -> Result<Option<Fault>, AllocError>
         requires is_among_tokens { IsOutlineAmong text.now tokens.now outline }
         requires keyword_lt_middle { outline.keyword < outline.middle }
         requires kind_lists_symbols { lists_symbols outline.kind ≡ true }
+        requires are_known { AreKnown self.now }
+        requires are_numbers { AreNumbersOnward (names_in self.now)
+            (between text.now tokens.now (outline.keyword + 1) outline.middle) numbers.now }
         ensures { IfOk result
             (IsLeastFault self.now
             (λ n. scope_faults n depth (statement_of text.now tokens.now outline))) }
@@ -282,6 +294,7 @@ impl<'a, A: Allocator + Copy> Scope<'a, A> {
             outline.kind,
             from,
             outline.middle,
+            numbers,
         )?;
         let fault_of_statement = Self::whole_statement_fault(text, tokens, depth, outline);
         Ok(lesser(fault_of_statement, fault_of_symbols))
@@ -333,8 +346,21 @@ fn lesser(first: Option<Fault>, second: Option<Fault>) -> Option<Fault>
     }
 }
 
-/// In a list of at most this many words, each word is compared with those before it. The words of a
-/// longer list are kept in a map.
+/// Whether each number is greater than the one before it. No word then occurs twice among the words
+/// with these numbers. The words of a `$c` have such numbers, and those of most `$v` and `$d`.
+fn ascend(numbers: &[Sym]) -> bool
+    ensures { result ≡ true → IsStrictlyIncreasing numbers.now }
+{
+    for index in 1..numbers.len() {
+        if numbers[index].number() <= numbers[index - 1].number() {
+            return false;
+        }
+    }
+    true
+}
+
+/// In a list of at most this many words, of which the numbers don't ascend, each word is compared
+/// with those before it. The words of a longer one are kept in a map.
 const MAX_WORDS_COMPARED: u32 = 16;
 
 /// Whether the word at `token_index` is among the words before it, from `from` on.

@@ -214,13 +214,14 @@ impl<'a, A: Allocator + Copy> Outlined<'a, A> {
             (HasReadNext text.now tokens.now self.old.outlines.items depth outline numbers.now
             first end self.new) }
     {
+        let own_numbers = &numbers[first..end];
         self.fault = self
             .scope
-            .fault(alloc, text, tokens, depth, outline, &numbers[first..end])?;
+            .fault(alloc, text, tokens, depth, outline, own_numbers)?;
         if self.fault.is_some() {
             return Ok(());
         }
-        self.scope.add(text, tokens, outline)?;
+        self.scope.add(text, tokens, outline, own_numbers)?;
         add_end(&mut self.ends, end)?;
         self.outlines.push(outline)?;
         Ok(())

@@ -3,18 +3,20 @@
 ghost use Rattle.std.specs.Prelude.{◌≡◌, ◌<◌, ◌+◌, ◌-◌, ◌^◌, ◌∷◌, ◌++◌, [], ℕ, List, Some};
 ghost use Rattle.std.specs.Prelude.{length, not, true, OnOk, bytes_eq, if◌then◌else◌, slice_get};
 ghost use Rattle.mm_spec.specs.Text.{is_in, token};
-ghost use Rattle.mm_spec.specs.Statement.{Statement, label_of};
+ghost use Rattle.mm_spec.specs.Statement.{Statement, label_of, symbols_of};
 ghost use Rattle.mm_spec.specs.Lawful.{faults_at, is_typed, is_typed_otherwise, least, when};
 ghost use Rattle.mm_spec.specs.Lawful.{symbol_codes};
 ghost use Rattle.mm_spec.specs.Lawful.{label_faults, floating_faults};
 ghost use Rattle.mm_spec.specs.declared.Code.TheVariants.{BadTypecode, TypedBefore, OtherTypecode};
 ghost use Rattle.mm_outline.specs.Blocks.{is_open_in};
-ghost use Rattle.mm_outline.specs.Parts.{AreWithin, token_at, statement_of};
-ghost use Rattle.mm_database.specs.Names.{find as find_in, is_constant_in, with_name};
+ghost use Rattle.mm_outline.specs.Parts.{AreWithin, between, token_at, statement_of};
+ghost use Rattle.mm_database.specs.Names.{is_constant_in, with_name};
 ghost use Rattle.mm_scope.specs.Knows.{is_active_symbol, fault_at, listed_codes, typing_fault};
 ghost use Rattle.mm_scope.specs.WordEntry.{after_declaring, after_typing, declared_entry, entry_of};
 ghost use Rattle.mm_scope.specs.WordEntry.{entry_after, label_after};
-ghost use Rattle.mm_scope.specs.Scopes.{AreKnown, Declares, IsLeastCode, IsLeastFault};
+ghost use Rattle.mm_scope.specs.Formulas.{IsNumberOnward};
+ghost use Rattle.mm_scope.specs.Scopes.{AreKnown, AreNumbersAfter, Declares, IsLeastCode};
+ghost use Rattle.mm_scope.specs.Scopes.{IsLeastFault};
 ghost use Rattle.mm_scope.specs.Scopes.{IsOutlineAmong};
 ghost use Rattle.mm_scope.specs.Scopes.{IsScopeAfter, IsNextScope, declared_words, listed_words};
 ghost use Rattle.mm_scope.specs.Scopes.{symbol_in, word_entry_in, label_in, names_in};
@@ -58,9 +60,16 @@ impl<'a, A: Allocator + Copy> Scope<'a, A> {
         self.known.get(number.number() as usize).copied()
     }
 
-    /// Sets what is known of a symbol. A new symbol gets the next number.
-    fn set_symbol(&mut self, word: &'a [u8], symbol: SymbolEntry<'a>) -> Result<(), AllocError>
+    /// Sets what is known of a symbol. `number` is its number, or that which it will have among the
+    /// names of the whole text. A new symbol gets the next number.
+    fn set_symbol(
+        &mut self,
+        word: &'a [u8],
+        number: usize,
+        symbol: SymbolEntry<'a>,
+    ) -> Result<(), AllocError>
         requires are_known { AreKnown self.old }
+        requires is_number { IsNumberOnward (names_in self.old) word.now number }
         ensures are_known { OnOk result (AreKnown self.new) }
         ensures symbol_is_set { OnOk result
             ((w : List ℕ)
@@ -72,7 +81,6 @@ impl<'a, A: Allocator + Copy> Scope<'a, A> {
             (names_in self.new ≡ with_name word.now (names_in self.old)) }
         ensures blocks_stay { self.new.blocks ≡ self.old.blocks }
     {
-        let (number, _) = self.names.numbered(word);
         self.names.set_symbol(word, symbol)?;
         if number < self.known.len() {
             self.known[number] = symbol;
@@ -152,15 +160,23 @@ impl<'a, A: Allocator + Copy> Scope<'a, A> {
     }
 
     /// Returns what is wrong with a word as one of the symbols that a `$c`, `$v` or `$d` lists.
-    /// `repeated` says whether it occurs earlier in the statement.
-    pub(crate) fn listed_code(&self, kind: Kind, word: &[u8], repeated: bool) -> Option<Code>
+    /// `word_symbol` is what is known of the word, and `repeated` says whether it occurs earlier in
+    /// the statement.
+    pub(crate) fn listed_code(
+        &self,
+        kind: Kind,
+        word: &[u8],
+        word_symbol: Option<SymbolEntry<'a>>,
+        repeated: bool,
+    ) -> Option<Code>
         ensures { (earlier : List (List ℕ))
+            → symbol_in self.now word.now ≡ word_symbol.entry
             → repeated ≡ is_in word.now earlier
             → IsLeastCode self.now (λ n. listed_codes n kind earlier word.now) result }
     {
         // A `$c` may declare no symbol again. A `$v` may declare again a variable that isn't
         // active.
-        let (is_declared, is_active) = match self.names.symbol(word) {
+        let (is_declared, is_active) = match word_symbol {
             Some(symbol) => {
                 let is_active = self.is_active(symbol);
                 (
@@ -211,18 +227,18 @@ impl<'a, A: Allocator + Copy> Scope<'a, A> {
     }
 }
 
-/// Returns what is known of the symbol after its declaration by the statement.
-fn declared_symbol<'a, A: Allocator + Copy>(
-    names: &NameTable<'a, A>,
+/// Returns what is known of the symbol after its declaration by the statement. `before` is what was
+/// known of it.
+fn declared_symbol<'a>(
+    before: Option<SymbolEntry<'a>>,
     is_variable: bool,
     statement: u32,
     word: &'a [u8],
 ) -> SymbolEntry<'a>
     ensures { entry_of (Some result)
-        ≡ declared_entry is_variable statement word.entry.now
-        (entry_of (find_in names.now.symbols word.entry.now)) }
+        ≡ declared_entry is_variable statement word.entry.now (entry_of before.entry) }
 {
-    match names.symbol(word) {
+    match before {
         Some(old) => SymbolEntry {
             is_variable,
             declaration: statement,
@@ -239,14 +255,19 @@ fn declared_symbol<'a, A: Allocator + Copy>(
 }
 
 impl<'a, A: Allocator + Copy> Scope<'a, A> {
-    /// Adds the block and the names of the next lawful statement.
+    /// Adds the block and the names of the next lawful statement. `numbers` has the numbers of its
+    /// symbols.
     pub(crate) fn add(
         &mut self,
         text: &'a [u8],
         tokens: &[Word],
         outline: Outline,
+        numbers: &[Sym],
     ) -> Result<(), AllocError>
         requires is_among_tokens { IsOutlineAmong text.now tokens.now outline }
+        requires are_numbers { AreNumbersAfter self.old
+            (declared_words (statement_of text.now tokens.now outline))
+            (symbols_of (statement_of text.now tokens.now outline)) numbers.now }
         requires few_tokens { length tokens.now < 2 ^ 31 }
         requires is_scope_after { (db : List Statement)
             × IsScopeAfter db self.old × (length db < 2 ^ 31) }
@@ -260,18 +281,22 @@ impl<'a, A: Allocator + Copy> Scope<'a, A> {
     {
         let statement = self.blocks.len();
         self.blocks.push(outline.kind)?;
-        self.add_names(text, tokens, outline, statement)
+        self.add_names(text, tokens, outline, numbers, statement)
     }
 
-    /// Adds the names of the statement.
+    /// Adds the names of the statement. `numbers` has the numbers of its symbols.
     fn add_names(
         &mut self,
         text: &'a [u8],
         tokens: &[Word],
         outline: Outline,
+        numbers: &[Sym],
         statement: u32,
     ) -> Result<(), AllocError>
         requires is_among_tokens { IsOutlineAmong text.now tokens.now outline }
+        requires are_numbers { AreNumbersAfter self.old
+            (declared_words (statement_of text.now tokens.now outline))
+            (symbols_of (statement_of text.now tokens.now outline)) numbers.now }
         requires few_tokens { length tokens.now < 2 ^ 31 }
         requires are_known { AreKnown self.old }
         ensures are_known { OnOk result (AreKnown self.new) }
@@ -294,11 +319,11 @@ impl<'a, A: Allocator + Copy> Scope<'a, A> {
         match outline.kind {
             Kind::Constants => {
                 let is_variable = false;
-                self.declare(text, tokens, outline, is_variable, statement)
+                self.declare(text, tokens, outline, numbers, is_variable, statement)
             }
             Kind::Variables => {
                 let is_variable = true;
-                self.declare(text, tokens, outline, is_variable, statement)
+                self.declare(text, tokens, outline, numbers, is_variable, statement)
             }
             Kind::Floating => {
                 self.give_label(text, tokens, outline.keyword, statement)?;
@@ -365,7 +390,8 @@ impl<'a, A: Allocator + Copy> Scope<'a, A> {
         let variable_token = tokens[from as usize + 1];
         let typecode = typecode_token.bytes(text);
         let word = variable_token.bytes(text);
-        match self.names.symbol(word) {
+        let (number, known) = self.names.numbered(word);
+        match known {
             Some(old) => {
                 let symbol = SymbolEntry {
                     is_variable: old.is_variable,
@@ -373,23 +399,26 @@ impl<'a, A: Allocator + Copy> Scope<'a, A> {
                     typing: statement,
                     typecode,
                 };
-                self.set_symbol(word, symbol)
+                self.set_symbol(word, number, symbol)
             }
             None => Ok(()),
         }
     }
 
-    /// Declares the words of the statement, a `$c` or `$v`.
+    /// Declares the words of the statement, a `$c` or `$v`. `numbers` has their numbers.
     fn declare(
         &mut self,
         text: &'a [u8],
         tokens: &[Word],
         outline: Outline,
+        numbers: &[Sym],
         is_variable: bool,
         statement: u32,
     ) -> Result<(), AllocError>
         requires is_among_tokens { IsOutlineAmong text.now tokens.now outline }
         requires keyword_lt_middle { outline.keyword < outline.middle }
+        requires are_numbers { AreNumbersAfter self.old (listed_words text.now tokens.now outline)
+            (between text.now tokens.now (outline.keyword + 1) outline.middle) numbers.now }
         requires are_known { AreKnown self.old }
         ensures are_known { OnOk result (AreKnown self.new) }
         ensures labels_stay { OnOk result
@@ -403,11 +432,13 @@ impl<'a, A: Allocator + Copy> Scope<'a, A> {
         ensures names_are_declared { OnOk result
             (Declares self.old self.new (listed_words text.now tokens.now outline)) }
     {
-        for token_index in outline.keyword + 1..outline.middle {
+        let from = outline.keyword + 1;
+        for token_index in from..outline.middle {
             let token = tokens[token_index as usize];
             let word = token.bytes(text);
-            let symbol = declared_symbol(&self.names, is_variable, statement, word);
-            self.set_symbol(word, symbol)?;
+            let number = numbers[(token_index - from) as usize];
+            let symbol = declared_symbol(self.symbol_at(number), is_variable, statement, word);
+            self.set_symbol(word, number.number() as usize, symbol)?;
         }
         Ok(())
     }

@@ -1,5 +1,5 @@
 use Rattle.std.proofs.Common.{◌≡◌, ◌∙◌, ◌+◌, ◌-◌, ◌<◌, ℕ, List, length, get_or, refl, sym, ap}
-use Rattle.std.proofs.Common.{arith, replicate}
+use Rattle.std.proofs.Common.{arith, replicate, false}
 use Rattle.std.proofs.lemmas.List.{length-replicate, get_or-replicate}
 use Rattle.mm_frame.proofs.ChainsLaw.{no_chains_at_start, no_links_are_linked, has_symbol_lt_length}
 use Rattle.mm_frame.proofs.ChainsLaw.{chains_for_equal_tests, symbol_lt_symbol_count}
@@ -24,8 +24,8 @@ loop-statement-init g c =
       count = length_heads_is_n ∙ c.symbol_count.ensures.count_is;
       linked = rw c.new.ensures.items (no_links_are_linked heads heads_are_0);
       chains = rw (c.new.ensures.items, c.len-statement.ensures.len)
-          (no_chains_at_start (length db) (has_symbol_by_width db c.args.narrow) heads
-          (has_symbol_lt_length db c.args.narrow) heads_are_0);
+          (no_chains_at_start (length db) (has_symbol_by_width db false) heads
+          (has_symbol_lt_length db false) heads_are_0);
     }
 
 pub loop-statement-preserved-in-Continue-branch-2 :
@@ -43,7 +43,7 @@ loop-statement-preserved-in-Continue-branch-2 g c =
       linked = c.in_ok-add_links.ensures.are_linked;
       chains =
           chains_for_equal_tests _ _ (statement - 1) (statement - 1) _ _ (omega arith)
-          (λ x j. has_symbol_with_disjoint db c.args.narrow (statement - 1) x j statement
+          (λ x j. has_symbol_with_disjoint db false (statement - 1) x j statement
           c.formula.result.now
           statement_is_next
           c.formula.ensures.formula (sym c.is_disjoint_by_width.ensures
@@ -67,7 +67,7 @@ loop-statement-preserved g c =
       linked = c.loop-statement.invariant.linked;
       chains =
           chains_for_equal_tests _ _ (statement - 1) statement _ _ (omega arith)
-          (λ x j. has_symbol_without_disjoint db c.args.narrow (statement - 1) x j statement
+          (λ x j. has_symbol_without_disjoint db false (statement - 1) x j statement
           statement_is_next
           (sym c.is_disjoint_by_width.ensures ∙ c.if-is_disjoint_by_width.false))
           c.loop-statement.invariant.chains;
@@ -76,7 +76,7 @@ loop-statement-preserved g c =
 pub returns-clause-symbols_have_heads : goal.returns-clause-symbols_have_heads
 returns-clause-symbols_have_heads g c = λ x j j_has_x.
     let x_lt_symbol_count =
-    symbol_lt_symbol_count c.args.statements.now.list c.len-statement.ensures.is_sound c.args.narrow
+    symbol_lt_symbol_count c.args.statements.now.list c.len-statement.ensures.is_sound false
     x j j_has_x
     in
     omega (arith, x_lt_symbol_count, c.loop-statement.invariant.count)

@@ -1,4 +1,4 @@
-use Rattle.std.proofs.Common.{◌≡◌, ◌≤◌, ◌&&◌, length, nat_le}
+use Rattle.std.proofs.Common.{◌≡◌, ◌≤◌, ◌&&◌, length, nat_le, false}
 use Rattle.mm_spec.specs.Frame.{symbol_names}
 use Rattle.mm_frame.specs.Chains.{AreLinked, AreChains}
 use Rattle.mm_database.specs.DisjointIndex.{has_symbol_by_width}
@@ -9,7 +9,7 @@ invariant-loop-statement g l = record {
   statement_le_length : l.statement ≤ length l.statements.list;
   count : length l.chains.heads.items ≡ length (symbol_names l.statements.list);
   linked : AreLinked l.chains.heads.items l.chains.links.items;
-  chains : AreChains (λ x j. nat_le l.statement j && has_symbol_by_width l.statements.list l.narrow
+  chains : AreChains (λ x j. nat_le l.statement j && has_symbol_by_width l.statements.list false
       x j) l.statement
       l.chains.heads.items l.chains.links.items;
 }

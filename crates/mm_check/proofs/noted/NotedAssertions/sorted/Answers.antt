@@ -1,5 +1,4 @@
 use Rattle.std.proofs.Common.{nat_eq, ap, ◌∙◌}
-use Rattle.std.specs.List.{dedup}
 use Rattle.std.proofs.lemmas.List.Filters.{dedup_is}
 use Rattle.std.proofs.lemmas.Map.Keys.{IsStrictlyIncreasing-dedup}
 use Rattle.mm_spec.specs.Derivation.{is_member}

@@ -3,14 +3,14 @@ use Rattle.std.proofs.lemmas.List.{get_or_default}
 use Rattle.mm_machine.specs.Entries.{no_entry}
 use Rattle.mm_machine.proofs.MachineLaw.{marked_machine, machine_after_mark, marked_state}
 use Rattle.mm_machine.proofs.MachineLaw.{last_index}
-use Rattle.mm_machine.proofs.MaskedLaw.{raised_masked, raised_keeping}
+use Rattle.mm_machine.proofs.MaskedLaw.{raised_masked}
 use Rattle.mm_machine.proofs.OwnersLaw.{masks_with_marked}
 use Rattle.mm_machine.proofs.machine.Machine.mark.Goals as goal
 
 pub invariant_of-self : goal.invariant_of-self
 invariant_of-self g c =
     rw c.in_err-push.ensures.items
-    (raised_keeping c.self.invariant c.max-self-inside.result c.for_itself-entry.result.needed
+    (raised_masked c.self.invariant c.max-self-inside.result c.for_itself-entry.result.needed
     c.max-self-inside.ensures c.for_itself-entry.ensures.is_entry.needed_le_count)
 
 pub invariant_of-self-in_err-push-2 : goal.invariant_of-self-in_err-push-2
@@ -26,21 +26,16 @@ invariant_of-self-in_err-push-2 g c =
     let e = c.for_itself-entry.result in
     rw (c.in_err-push-2.ensures.items, c.in_ok-push.ensures.items)
     (record {
-      of_marked = record {
-        is_machine =
-            marked_machine
-            c.self.invariant.of_marked.is_machine n c.max-self-inside.result m e
-            (omega (arith, count_is)) m_is
-            c.for_itself-entry.ensures.is_entry c.for_itself-entry.ensures.formula_stays
-            c.max-self-inside.ensures;
-        has_masks =
-            masks_with_marked c.self.invariant.of_marked.has_masks n m e
-            (omega (arith, count_is)) m_is c.for_itself-entry.ensures.formula_stays
-            c.for_itself-entry.ensures.mask_stays;
-      };
-      of_long =
-          raised_masked c.self.invariant.of_long c.max-self-inside.result e.needed
-          c.max-self-inside.ensures c.for_itself-entry.ensures.is_entry.needed_le_count;
+      is_machine =
+          marked_machine
+          c.self.invariant.is_machine n c.max-self-inside.result m e
+          (omega (arith, count_is)) m_is
+          c.for_itself-entry.ensures.is_entry c.for_itself-entry.ensures.formula_stays
+          c.max-self-inside.ensures;
+      has_masks =
+          masks_with_marked c.self.invariant.has_masks n m e
+          (omega (arith, count_is)) m_is c.for_itself-entry.ensures.formula_stays
+          c.for_itself-entry.ensures.mask_stays;
     })
 
 pub invariant_of-self-2 : goal.invariant_of-self-2
@@ -56,21 +51,16 @@ invariant_of-self-2 g c =
     let e = c.for_itself-entry.result in
     rw (c.in_ok-push-2.ensures.items, c.in_ok-push.ensures.items)
     (record {
-      of_marked = record {
-        is_machine =
-            machine_after_mark c.self.invariant.of_marked.is_machine n c.max-self-inside.result m e
-            (omega (arith, count_is)) m_is c.for_itself-entry.ensures.is_entry
-            c.for_itself-entry.ensures.formula_stays c.max-self-inside.ensures c.args.step
-            (subst (All (λ j. j < c.args.step)) (sym (ap (λ s. s.marks) c.self.view_is))
-            c.requires.marks_lt_step);
-        has_masks =
-            masks_with_marked c.self.invariant.of_marked.has_masks n m e
-            (omega (arith, count_is)) m_is c.for_itself-entry.ensures.formula_stays
-            c.for_itself-entry.ensures.mask_stays;
-      };
-      of_long =
-          raised_masked c.self.invariant.of_long c.max-self-inside.result e.needed
-          c.max-self-inside.ensures c.for_itself-entry.ensures.is_entry.needed_le_count;
+      is_machine =
+          machine_after_mark c.self.invariant.is_machine n c.max-self-inside.result m e
+          (omega (arith, count_is)) m_is c.for_itself-entry.ensures.is_entry
+          c.for_itself-entry.ensures.formula_stays c.max-self-inside.ensures c.args.step
+          (subst (All (λ j. j < c.args.step)) (sym (ap (λ s. s.marks) c.self.view_is))
+          c.requires.marks_lt_step);
+      has_masks =
+          masks_with_marked c.self.invariant.has_masks n m e
+          (omega (arith, count_is)) m_is c.for_itself-entry.ensures.formula_stays
+          c.for_itself-entry.ensures.mask_stays;
     })
 
 pub returns-clause-marks_step : goal.returns-clause-marks_step

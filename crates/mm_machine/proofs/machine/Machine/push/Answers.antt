@@ -2,7 +2,7 @@ use Rattle.std.proofs.lemmas.Grind.{common_steps}
 use Rattle.std.proofs.Common.{◌<◌, ◌∷◌, ◌∙◌, [], All, length, refl, ap}
 use Rattle.std.proofs.Common.{sym, subst, arith}
 use Rattle.mm_machine.proofs.MachineLaw.{pushed_state}
-use Rattle.mm_machine.proofs.MaskedLaw.{pushed_keeping, pair_is}
+use Rattle.mm_machine.proofs.MaskedLaw.{pushed_masked, pair_is}
 use Rattle.mm_machine.proofs.StackLaw.{extends_unchanged}
 use Rattle.mm_machine.proofs.machine.Machine.push.Goals as goal
 
@@ -14,7 +14,7 @@ invariant_of-self g c =
     let s = c.symbol-symbol.result in
     let masking = c.mask_of-both.ensures in
     let replacing = c.replace_by_pair in
-    pushed_keeping c.self.invariant replacing.result c.mask_of-both.new.self i.nodes
+    pushed_masked c.self.invariant replacing.result c.mask_of-both.new.self i.nodes
     replacing.new.stack.items c.len-below.result (length i.nodes) c.mask_of-both.result (t ∷ s ∷ [])
     f masking.variables_stay masking.extends masking.stay_in_range masking.are_masked
     (subst (λ n. All (λ s. s < n) f) (sym (ap (λ s. length s.variable_flags) c.self.view_is))

@@ -1,51 +1,13 @@
-use Rattle.std.proofs.Common.{◌≡◌, ◌<◌, ◌∙◌, length, get_or, ap, sym, arith}
-use Rattle.std.proofs.lemmas.List.{get_or_default}
-use Rattle.mm_machine.specs.Entries.{no_entry}
-use Rattle.mm_machine.proofs.MachineLaw.{repeated_machine, repeated_state}
-use Rattle.mm_machine.proofs.MaskedLaw.{restacked_keeping}
-use Rattle.mm_machine.proofs.OwnersLaw.{masks_with_repeated}
+use Rattle.std.proofs.Common.{◌∙◌, length, get_or, ap, sym, arith}
+use Rattle.mm_machine.proofs.MachineLaw.{repeats_if_pushed}
 use Rattle.mm_machine.proofs.machine.Machine.repeat.Goals as goal
-
-pub invariant_of-self-2 : goal.invariant_of-self-2
-invariant_of-self-2 g c =
-    let i = c.self.inside in
-    let index = c.index_of_mark-index.result in
-    let index_lt : index < length i.marked.items =
-    omega (
-      arith,
-      c.index_of_mark-index.ensures.index_lt_length,
-      c.self.invariant.of_marked.is_machine.enough_marked,
-      ap length c.deref.ensures.value,
-    ) in
-    let m = c.index.result.now in
-    let m_is : m ≡ get_or i.marked.items index no_entry =
-    c.index.ensures ∙ get_or_default i.marked.items index m no_entry index_lt in
-    rw c.in_ok-push.ensures.items
-    (restacked_keeping c.self.invariant _ (record {
-      is_machine =
-          repeated_machine c.self.invariant.of_marked.is_machine index m c.for_top-entry.result
-          index_lt
-          m_is c.for_top-entry.ensures.is_entry c.for_top-entry.ensures.formula_stays
-          c.for_top-entry.ensures.needs_all;
-      has_masks =
-          masks_with_repeated c.self.invariant.of_marked.has_masks index m c.for_top-entry.result
-          index_lt
-          m_is
-          c.for_top-entry.ensures.formula_stays c.for_top-entry.ensures.mask_stays;
-    }))
 
 pub returns-clause-repeats_step : goal.returns-clause-repeats_step
 returns-clause-repeats_step g c =
-    let i = c.self.inside in
     let index = c.index_of_mark-index.result in
-    let index_lt_marks : index < length i.marks.items =
-    omega (arith, c.index_of_mark-index.ensures.index_lt_length, ap length c.deref.ensures.value) in
-    let index_lt : index < length i.marked.items =
-    omega (arith, index_lt_marks, c.self.invariant.of_marked.is_machine.enough_marked) in
-    let m = c.index.result.now in
-    rw c.in_ok-push.ensures.items (repeated_state c.self.invariant.of_marked.is_machine index m
-    c.for_top-entry.result index_lt (c.index.ensures ∙ get_or_default i.marked.items index m
-    no_entry index_lt) c.for_top-entry.ensures.is_entry c.for_top-entry.ensures.formula_stays
-    c.for_top-entry.ensures.needs_all c.args.step c.args.self.now c.self.view_is index_lt_marks
-    (ap (λ ms. get_or ms index 0) (sym c.deref.ensures.value)
-    ∙ c.index_of_mark-index.ensures.finds_mark))
+    let marks_are = c.deref.ensures.value ∙ ap (λ s. s.marks) c.self.view_is in
+    repeats_if_pushed c.push_marked.result c.args.step index c.args.self.now
+    c.push_marked.new.self c.push_marked.ensures.formula_is_there
+    (omega (arith, c.index_of_mark-index.ensures.index_lt_length, ap length marks_are))
+    (ap (λ ms. get_or ms index 0) (sym marks_are) ∙ c.index_of_mark-index.ensures.finds_mark)
+    c.push_marked.ensures.pushes_formula

@@ -1,5 +1,5 @@
 use Rattle.std.proofs.Common.{rules, refl, None, ◌≡◌, ◌++◌, length, slice_range, sym}
-use Rattle.std.proofs.Common.{take, ap, ◌∙◌, [], ◌∷◌, subst}
+use Rattle.std.proofs.Common.{take, ap, ◌∙◌, List, [], ◌∷◌, subst}
 use Rattle.mm_lists.specs.Lists.{with_end}
 use Rattle.mm_scope.specs.Formulas.{AreFormulas}
 use Rattle.std.proofs.lemmas.List.{length-map}
@@ -8,7 +8,10 @@ use Rattle.mm_spec.specs.Statement.{symbols_of}
 use Rattle.mm_spec.specs.Lawful.{least, scope_faults}
 use Rattle.mm_outline.specs.Parts.{statement_of}
 use Rattle.mm_outline.specs.Statements.{statements}
-use Rattle.mm_scope.specs.Scopes.{names_in}
+use Rattle.mm_spec.specs.Text.{Bytes}
+use Rattle.mm_spec.specs.Frame.{first_occurrences}
+use Rattle.mm_scope.specs.Formulas.{numbers_in}
+use Rattle.mm_scope.specs.Scopes.{declared_words, names_in}
 use Rattle.mm_database.specs.Names.{names_of}
 use Rattle.mm_scope.proofs.KnowsLaw.{least_before_next}
 use Rattle.mm_scope.proofs.NumberedLaw.{declared, formulas_with_statement}
@@ -26,6 +29,23 @@ fault-requires-clause-are_numbers g c =
     (names_in c.args.self.now.scope) (symbols_of s)
     (slice_range c.args.numbers.now c.args.first c.args.end)
     c.requires.is_read_so_far.names_are c.requires.are_numbers
+
+pub add-requires-clause-are_numbers : goal.add-requires-clause-are_numbers
+add-requires-clause-are_numbers g c =
+    let text = c.args.text.now in
+    let ws = c.args.tokens.now in
+    let db = statements text ws c.args.self.now.outlines.items in
+    let s = statement_of text ws c.args.outline in
+    let are_numbers = c.requires.are_numbers in
+    let names = first_occurrences [] (declared db ++ declared_words s) in (
+      declared db,
+      c.requires.is_read_so_far.names_are,
+      (
+        are_numbers.0,
+        are_numbers.1 ∙ ap (λ (ns : List Bytes). numbers_in (ns ++ are_numbers.0) (symbols_of s))
+            (sym (declared_names_are_symbol_names db s names refl)),
+      ),
+    )
 
 pub returns-then-is_some-clause-is_read : goal.returns-then-is_some-clause-is_read
 returns-then-is_some-clause-is_read g c =

@@ -9,4 +9,5 @@ returns-in-Some-clause-names_stay g c =
     let m = c.args.self.now.names.symbols in
     on_ok_then c.set_symbol.result c.set_symbol.ensures.name_is_added
     (λ names_are_inserted. names_are_inserted ∙ with_known_name_is_unchanged w (names_of m)
-    (found_name_is_in w m c.symbol.result (sym c.symbol.ensures) (ap is_some c.in-Some.is)))
+    (found_name_is_in w m c.numbered-number.result.1
+    (sym c.numbered-number.ensures.symbol_is_found) (ap is_some c.in-Some.is)))

@@ -10,7 +10,7 @@ use Rattle.mm_scope.proofs.scope.Scope.listed_symbols_fault.Given as goal
 
 abbrev pub invariant-loop-token_index : goal.invariant-loop-token_index
 invariant-loop-token_index g l = record {
-  seen : l.is_short ≡ false → (w : List ℕ)
+  seen : l.are_ascending ≡ false → l.is_short ≡ false → (w : List ℕ)
       → is_some (find l.seen w)
       ≡ is_in w (words (between l.text l.tokens l.from l.token_index));
   least : (n : Names) → AreNamesOf l.self n

@@ -1,0 +1,6 @@
+use Rattle.std.proofs.Common.{◌<◌, ◌+◌, ℕ, slice_index}
+use Rattle.mm_scope.proofs.judge.ascend.Given as goal
+
+abbrev pub invariant-loop-index : goal.invariant-loop-index
+invariant-loop-index l =
+    (k : ℕ) → k + 1 < l.index → slice_index l.numbers k < slice_index l.numbers (k + 1)
