@@ -54,9 +54,10 @@ sound       yes: all conditions are kept
 why_not     why it isn't sound or not judged, or would not be sound
 condition   the name of the condition
 
-The status is 1 if one is `no`, and with LABELs also if one of these is `not judged`. So it is 0
-for LABELs only if each is `yes` or on trust; filters such as --like name none. The gate lets in
-neither `no` nor `not judged`, unless mmdepend.toml has the whole label.
+The status is 1 if one is `no`; if one isn't seen to have the shape of a definition, by the
+condition form, left or new; or if none of the database could be judged. With LABELs it is also 1 if
+one of these is `not judged`, so it is 0 only if each is `yes` or on trust; filters such as --like
+name none. The gate lets in neither `no` nor `not judged`, unless mmdepend.toml has the whole label.
 
 The conditions are these. The page SOUNDNESS says what follows from them, and why.
 
@@ -111,7 +112,6 @@ to each form of its statement, and from each form to those of its definition.
   $ mmquery needs set.mm df-sqrt --as dot | dot -Tsvg > sqrt.svg
 """
 COLUMNS = ("definition", "sound", "why_not", "condition")
-LEVELS = {NO: "error", UNKNOWN: "warning"}
 
 
 def configure(parser: Parser) -> None:
@@ -190,17 +190,18 @@ def put_verdicts(
         if each.label in wanted or not wanted
     ]
     passing = [found.verdicts[str(row[0])] for row in context.passing(rows)]
+    words = {each.sound for each in found.verdicts.values()}
+    is_none_judged = UNKNOWN in words and not words & {YES, NO}
     if any(each.sound != YES for each in passing):
-        is_all = len(passing) == len(found.verdicts)
-        context.tell(f"{database.name}: {in_short(passing, is_all)}")
+        context.tell(f"{database.name}: {in_short(passing, is_none_judged)}")
     if context.out.format == "github":
         context.out.text("".join(annotations(database, passing)))
     else:
         shown_rows = [[each.label, each.sound, each.why, each.condition] for each in passing]
         context.out.table(COLUMNS, shown_rows)
     # Who names a definition asks about it; the others may have one that can't be judged for years.
-    failing = (NO, UNKNOWN) if labels else (NO,)
-    return 1 if any(each.sound in failing for each in passing) else 0
+    failing = (each.is_refused() or (bool(labels) and each.sound == UNKNOWN) for each in passing)
+    return 1 if any(failing) or (passing and is_none_judged) else 0
 
 
 def see_definition(database: Database, found: Definitions, label: str) -> str:
@@ -211,12 +212,12 @@ def see_definition(database: Database, found: Definitions, label: str) -> str:
     return label
 
 
-def in_short(verdicts: list[Verdict], is_all: bool) -> str:
-    """How many there are of each kind, and which are on trust; also where none of all that the
+def in_short(verdicts: list[Verdict], is_none_judged: bool) -> str:
+    """How many there are of each kind, and which are on trust; and whether none of all that the
     database has could be judged."""
     counts = {word: sum(each.sound == word for each in verdicts) for word in (YES, NO, UNKNOWN)}
     said = f"{counts[YES]} sound, {counts[NO]} not, {counts[UNKNOWN]} not judged"
-    if is_all and counts[UNKNOWN] and not counts[YES] + counts[NO]:
+    if counts[UNKNOWN] and is_none_judged:
         said = f"no definition could be judged: {said}"
     trusted = [each.label for each in verdicts if each.sound == TRUST]
     return said + (f"; on trust: {', '.join(trusted)}" if trusted else "")
@@ -226,12 +227,13 @@ def annotations(database: Database, verdicts: list[Verdict]) -> Iterator[str]:
     """The verdicts that aren't `yes` as annotations of GitHub."""
     text = database.text
     for each in verdicts:
-        if each.sound in LEVELS:
+        if each.sound in (NO, UNKNOWN):
+            level = "error" if each.is_refused() else "warning"
             place = f"line={text.line(text.by_label[each.label].place)}"
             name = escaped(database.name, is_property=True)
             title = escaped(f"mmquery definitions ({each.condition})", is_property=True)
             why = escaped(f"{each.label}: {each.sound}: {each.why}")
-            yield f"::{LEVELS[each.sound]} file={name},{place},title={title}::{why}\n"
+            yield f"::{level} file={name},{place},title={title}::{why}\n"
 
 
 def configure_needs(parser: Parser) -> None:

@@ -53,16 +53,16 @@ status   new:     only NEW has the label, and it isn't renamed
          gone:    only OLD has the label, and its statement isn't renamed
          renamed: it had another label
          changed: both have the label, with another statement; it may be renamed too, and so may
-                  what the label said before. Such a theorem neither gains nor loses an axiom,
-                  unless it is renamed, or only the order of its `$f` is other or the names of its
-                  variables are
+                  what the label said before. Such a theorem loses no axiom, and gains none that
+                  OLD has, unless it is renamed, or only the order of its `$f` is other or the
+                  names of its variables are
          moved:   it stands before or behind others than it did
          proof:   it has another proof; one theorem may have several of these words. A proof is
                   the same one where only labels of what was renamed are other in it
 was      of a renamed one the label in OLD
 axioms   of a new or changed one, on how many axioms it rests
-gained   the axioms on which it came to rest; of a new one those on which it rests and that OLD
-         hasn't
+gained   the axioms on which it came to rest; of a new or changed one those on which it rests and
+         that OLD hasn't
 lost     the axioms on which it no longer rests
 via      for each axiom gained, by what: of the first new citation on a shortest chain to the axiom
          what the theorem cites, or, where another theorem has that citation, which one
@@ -73,11 +73,11 @@ old, new both statements of a changed one, as `compare` tells them; of a new one
          its hypotheses and the pairs of distinct variables, or their number where that is long
 how      what the new one is beside the old one, as `compare` tells it
 
-As text it says first on which axioms that OLD hasn't new theorems rest, and which ones. Then come
-the edits that let axioms in: which proof newly cites what, how many theorems of both came to rest
-on each axiom by that, and how many fewer would without the new citations of that proof. Where a
-theorem became an axiom, that is the edit. Each theorem is counted with one edit, the first on a
-shortest chain to the axiom; by another edit it may rest on the axiom all the same. What new
+As text it says first on which axioms that OLD hasn't new or changed theorems rest, and which ones.
+Then come the edits that let axioms in: which proof newly cites what, how many theorems of both came
+to rest on each axiom by that, and how many fewer would without the new citations of that proof.
+Where a theorem became an axiom, that is the edit. Each theorem is counted with one edit, the first
+on a shortest chain to the axiom; by another edit it may rest on the axiom all the same. What new
 theorems say, and both statements of changed ones, stand below the table.
 
 The table has only what this change touches itself: `compare` lists all theorems that came to rest
@@ -85,10 +85,10 @@ on an axiom. Theorems with the same proof by new labels, those of what was renam
 on standard error or in the comment, unless something else became of them. Standard error also says
 which axioms of any typecode are new, changed, renamed and gone, and of each new or changed
 definition what it defines, or why it isn't sound. With --format markdown it is a comment for the
-pull request, which says first which axioms these are, then on which of them new theorems rest, and
-then has at most 60 edits that let axioms in, what new and changed definitions define, at most 60
-theorems, both statements of at most 60 that were changed, and what at most 60 new ones say, in both
-axioms included.
+pull request, which says first which axioms these are, then on which of them new or changed theorems
+rest, and then has at most 60 edits that let axioms in, what new and changed definitions define, at
+most 60 theorems, both statements of at most 60 that were changed, and what at most 60 new ones say,
+in both axioms included.
 
   $ mmquery review v1:set.mm set.mm
   $ mmquery review v1:set.mm set.mm --format markdown
@@ -286,10 +286,17 @@ def add_shifts(comparison: Comparison, found: dict[str, Outcome], causes: Causes
                 change.lost.append(axiom)
 
 
+def arrivals(comparison: Comparison) -> Iterator[str]:
+    """The theorems of NEW for which OLD has none that says the same: new ones, and those whose
+    statement was changed."""
+    yield from comparison.theorems.new
+    yield from (one for one in comparison.restated if one not in comparison.theorems.renamed)
+
+
 def add_new_axioms(comparison: Comparison, found: Mapping[str, Outcome]) -> None:
-    """Adds to new theorems the axioms on which they rest and that OLD hasn't, and by what."""
+    """Adds to these the axioms on which they rest and that OLD hasn't, and by what."""
     dependence = comparison.new.dependence
-    rows = {dependence.rows.get(label) for label in comparison.theorems.new}
+    rows = {dependence.rows.get(label) for label in arrivals(comparison)}
     lacking = [axiom for was, axiom in axioms_of(comparison) if was is None and axiom is not None]
     for axiom in lacking if rows else ():
         users = dependence.users(dependence.columns[axiom])
@@ -333,7 +340,7 @@ def comment(comparison: Comparison, review: Review, causes: Causes, telling: Tel
     changes = review.changes
     lines = [f"**Axioms**: {axioms_in_words(comparison, code) or 'no change'}.", ""]
     fresh = new_in_words(comparison, changes, code)
-    lines += section("New theorems on new axioms", fresh, "axioms")
+    lines += section("New and changed theorems on new axioms", fresh, "axioms")
     lines += section("Edits that let axioms in", causes_in_words(causes, code), "edits")
     if definitions := definitions_in_words(comparison, code):
         lines += ["**Definitions**:", "", *(f"- {each}" for each in definitions), ""]
@@ -420,15 +427,17 @@ def causes_in_words(causes: Causes, shown: Callable[[str], str]) -> Iterator[str
 def new_in_words(
     comparison: Comparison, changes: Sequence[Outcome], shown: Callable[[str], str]
 ) -> Iterator[str]:
-    """Each axiom that OLD hasn't and on which new theorems rest, with these. `shown` says how a
-    label is."""
+    """Each axiom that OLD hasn't and on which new or changed theorems rest, with these. `shown`
+    says how a label is."""
+    arrived = set(arrivals(comparison))
     resting: dict[str, list[str]] = {}
     for each in changes:
-        for axiom in each.gained if "new" in each.status else ():
+        for axiom in each.gained if each.label in arrived else ():
             resting.setdefault(axiom, []).append(shown(each.label))
     for axiom in filter(resting.__contains__, comparison.new.dependence.axioms):
         named = listed(resting[axiom], SHOWN_NEW)
-        yield f"{shown(axiom)} is new among the axioms, and new theorems rest on it: {named}"
+        rests = f"new or changed theorems rest on it: {named}"
+        yield f"{shown(axiom)} is new among the axioms, and {rests}"
 
 
 def definitions_in_words(comparison: Comparison, shown: Callable[[str], str]) -> list[str]:

@@ -29,7 +29,7 @@ TRUSTED = ("df-bi", "df-clab", "df-cleq", "df-clel")
 `conventions` says, its rules are too strict."""
 NO_EQUALITY = (
     "there is no equality, ( wff <-> wff ) or class = class; `definitions --equality` names the"
-    " syntax axiom of another one"
+    " syntax axioms of others, of which one has to be of wffs"
 )
 MOST_LEFT_VARIABLES = 100
 """Of more variables of a left side nothing is judged, since each two of them are looked at."""
@@ -51,6 +51,8 @@ CONDITIONS = {
     "equality": "theorems say that the equality is one",
 }
 """What a definition has to keep, in the order in which it is looked at, by the name of each."""
+SHAPE = ("form", "left", "new")
+"""Those by which an axiom is an equation that says what a new form stands for."""
 
 YES, NO, UNKNOWN, TRUST = "yes", "no", "not judged", "on trust"
 
@@ -66,6 +68,11 @@ class Verdict:
     condition: str | None = None
     why: str | None = None
     defines: str | None = None
+
+    def is_refused(self) -> bool:
+        """Whether it is wrong, or isn't seen to have the shape of a definition, so that it may be
+        any axiom that is only called one."""
+        return self.sound == NO or (self.sound == UNKNOWN and self.condition in SHAPE)
 
 
 class Broken(Exception):

@@ -220,11 +220,12 @@ class Rules(World):
         foo = "$c Foo $. cfoo $a class Foo $. df-foo $a |- Foo == Foo $.\n"
         more = "$c Baz $. cbaz $a class Baz $. df-baz $a |- Baz == Baz $.\n"
         for text, words, said, status in (
-            (without + foo, (), none.format(1), 0),
+            (without + foo, (), none.format(1), 1),
             (without + foo, ("df-foo",), none.format(1), 1),
-            (without + foo + more, (), none.format(2), 0),
-            (without + foo + more, ("df-foo",), "0 sound, 0 not, 1 not judged", 1),
-            (without + foo + more, ("--trust=df-baz",), f"{none.format(1)}; on trust: df-baz", 0),
+            (without + foo + more, (), none.format(2), 1),
+            (without + foo + more, ("df-foo",), none.format(1), 1),
+            (without + foo + more, ("--like=df-foo",), none.format(1), 1),
+            (without + foo + more, ("--trust=df-baz",), f"{none.format(1)}; on trust: df-baz", 1),
             (changed(LOGIC, (FOO, free)), (), "5 sound, 0 not, 1 not judged", 0),
             (changed(LOGIC, (FOO, free)), ("df-foo",), "0 sound, 0 not, 1 not judged", 1),
         ):
@@ -233,7 +234,7 @@ class Rules(World):
             self.assertEqual((done.err, done.status), (f"mmquery: db.mm: {said}\n", status))
         told = self.sound(without + foo)["df-foo"]
         self.assertEqual(told, ("not judged", NO_EQUALITY))
-        self.assertIn("`definitions --equality` names the syntax axiom", NO_EQUALITY)
+        self.assertIn("`definitions --equality` names the syntax axioms", NO_EQUALITY)
 
     def test_other_databases(self) -> None:
         self.write("db.mm", "$c |- a b $.\ndf-a $a |- a b $.\n")
@@ -258,7 +259,7 @@ class Rules(World):
         self.write("db.mm", text)
         (row,) = self.query("definitions", "db.mm", "--equality=weq", "--format=json").rows()
         self.assertEqual((row["sound"], row["condition"]), ("not judged", "equality"))
-        self.assertIn("there is no equality of typecode wff", row["why_not"])
+        self.assertIn("there is no equality of typecode wff", str(row["why_not"]))
         basis = self.answers("definitions", "db.mm", "--equality=weq", "--basis")
         self.assertNotIn("no theorem", "".join(basis))
 
@@ -349,8 +350,9 @@ class Chosen(World):
         wrong = LOGIC.replace("df-ex $a |- ( E. x ph <->", "df-ex $a |- ( E. x ph ->")
         self.write("db.mm", wrong)
         done = self.query("definitions", "db.mm", "--format=json")
-        self.assertEqual(done.status, 0)
-        self.assertEqual(self.query("definitions", "db.mm", "df-ex").status, 1)
+        self.assertEqual(done.status, 1)
+        self.assertEqual(self.query("definitions", "db.mm", "df-foo").status, 1)
+        self.assertEqual(self.query("definitions", "db.mm", "--like=df-foo").status, 0)
         self.assertEqual({row["condition"] for row in done.rows()}, {None, "form", "rests"})
         done = self.query("definitions", "db.mm", "--trust=df-ex", "--format=json")
         self.assertEqual(done.status, 0)
@@ -398,7 +400,7 @@ class Chosen(World):
         first, second = done.lines()
         pattern = r"::{} file=db.mm,line=\d+,title=mmquery definitions \({}\)::{}: .*"
         self.assertRegex(first, pattern.format("error", "left", "df-ss: no"))
-        self.assertRegex(second, pattern.format("warning", "form", "df-foo: not judged"))
+        self.assertRegex(second, pattern.format("error", "form", "df-foo: not judged"))
         self.assertRegex(done.err, r"db.mm: 4 sound, 1 not, 1 not judged")
 
 

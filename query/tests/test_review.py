@@ -403,19 +403,44 @@ class NewOnes(World):
 
     def test_lines(self) -> None:
         """As text and in a comment these stand first; statements stand last."""
-        said = "bad is new among the axioms, and new theorems rest on it: one, two, three"
+        said = (
+            "bad is new among the axioms, and new or changed theorems rest on it: one, two, three"
+        )
         text = self.lines("text", SMALL + self.NEW)
         self.assertEqual(text[:2], [said, ""])
         self.assertEqual(text[-6:-3], ["", "three: new", "  is   |- ( p -> p )"])
         comment = [line.replace("`", "") for line in self.lines("markdown", SMALL + self.NEW)]
         self.assertEqual(
             comment[:5],
-            ["**Axioms**: 1 new (bad).", "", "**New theorems on new axioms**:", "", f"- {said}."],
+            [
+                "**Axioms**: 1 new (bad).",
+                "",
+                "**New and changed theorems on new axioms**:",
+                "",
+                f"- {said}.",
+            ],
         )
         news = comment[comment.index("**New statements**:") + 2 :]
         self.assertEqual(news[0], "- bad: |- ( p -> q )")
         self.assertEqual(news[2], "- two: $e |- p $. $d p q $. |- q")
         self.assertEqual(len(news), 5)
+
+    def test_changed_statements(self) -> None:
+        """A theorem that says something else is told as a new one is. One that was renamed as well
+        is compared with what it was."""
+        a2 = "a2 $p |- ( q -> ( q -> p ) ) $= wq wp wi wq wp wq g a1i a1i $."
+        other = "a2 $p |- ( q -> p ) $= wq wp bad $."
+        text = SMALL.replace("${ g $e", f"{self.BAD}${{ g $e").replace(a2, other)
+        (row,) = json.loads("\n".join(self.lines("json", text)))
+        self.assertEqual((row["theorem"], row["status"]), ("a2", ["changed", "proof"]))
+        self.assertEqual((row["axioms"], row["gained"], row["via"]), (1, ["bad"], ["bad"]))
+        said = "bad is new among the axioms, and new or changed theorems rest on it: a2"
+        self.assertEqual(self.lines("text", text)[0], said)
+        renamed = SMALL.replace("${ g $e", f"{self.BAD}${{ g $e").replace(a2, f"x{a2}\n{other}")
+        rows = json.loads("\n".join(self.lines("json", renamed)))
+        self.assertEqual(
+            [(row["theorem"], row["gained"]) for row in rows], [("xa2", []), ("a2", ["bad"])]
+        )
 
     def test_by_chance(self) -> None:
         """On which of two new axioms new theorems rest, by what they cite: of themselves, or by
@@ -456,7 +481,7 @@ class NewOnes(World):
         proof = "$p |- ( p -> ( q -> p ) ) $= wp wq ax-1 $."
         axiom = SMALL.replace(f"ax1 {proof}", "ax1 $a |- ( p -> ( q -> p ) ) $.")
         axiom += "new $p |- ( q -> ( p -> q ) ) $= wq wp ax1 $.\n"
-        said = "ax1 is new among the axioms, and new theorems rest on it: new"
+        said = "ax1 is new among the axioms, and new or changed theorems rest on it: new"
         self.assertEqual(self.lines("text", axiom)[0], said)
 
     def test_long_ones(self) -> None:

@@ -439,7 +439,7 @@ class Searched(World):
                 wanted = [
                     (label, None)
                     for label, each in said.items()
-                    if pattern in map(list, concluded(each))
+                    if pattern in [[*words] for words in concluded(each)]
                 ]
                 self.assertEqual(self.found(*words[:-1], f'"{typed}"'), wanted, pattern)
         self.assertGreater(min(behind, fewer), 5, (behind, fewer))
