@@ -131,10 +131,13 @@ def run(words: list[str]) -> int:
     progress.begin()
     try:
         filters = filters_of(arguments) if chosen.lists else Filters()
-        status = chosen.run(Context(out, not arguments.no_cache, filters), arguments)
+        context = Context(out, not arguments.no_cache, filters)
+        status = chosen.run(context, arguments)
     finally:
         progress.end()
     out.flush()
+    for remark in context.remarks:
+        tell(remark)
     return status
 
 

@@ -5,7 +5,6 @@ from dataclasses import dataclass, field
 from types import MappingProxyType
 from typing import TypeVar
 
-from query.answers.errors import tell
 from query.answers.output import Output, Value
 from query.arguments.filters import Filters, Test
 from query.reports.choice import Options
@@ -20,13 +19,15 @@ LARGER = "a larger N"
 class Context:
     """The surroundings of one command.
 
-    `out` takes the answer. `uses_cache` is whether results may be kept and taken from the cache.
-    `filters` say what of a list is wanted.
+    `out` takes the answer, and `remarks` what standard error says besides once it is written.
+    `uses_cache` is whether results may be kept and taken from the cache. `filters` say what of a
+    list is wanted.
     """
 
     out: Output = field(default_factory=Output)
     uses_cache: bool = True
     filters: Filters = Filters()
+    remarks: list[str] = field(default_factory=list)
     asked: Database | None = None
     """The first database that was asked for, of which the filters speak."""
 
@@ -91,5 +92,6 @@ class Context:
             self.tell(f"{self.asked.name}: {'; '.join(said)}")
 
     def tell(self, text: str) -> None:
-        """Writes a line to standard error, a remark that changes nothing of the answer."""
-        tell(text)
+        """Adds a line for standard error, a remark that changes nothing of the answer. Where there
+        is no answer, or it can't be written, that line alone is said, and no remark."""
+        self.remarks.append(text)

@@ -11,7 +11,7 @@ from query.tests.world import World
 from query.texts.comment_tokens import tokens
 from query.texts.uncommented import declared_at, proof_of, without_comments
 
-SECONDS = 20
+SECONDS = 60
 MEMORY = 500_000_000
 
 

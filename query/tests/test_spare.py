@@ -509,14 +509,12 @@ class Limits(World):
         judge.judge_changes(database, judge.rewritten(database.text, found), found)
         self.assertEqual(rows_of(database, found), [])
         words = parser_of(command("spare")).read([path, "bad", "--no-cache"])
-        with (
-            mock.patch.multiple(search, STEPS=0, STEPS_OF_FORMULA=1),
-            mock.patch("query.arguments.context.tell") as told,
-        ):
-            command("spare").run(Context(Output(), False), words)
+        context = Context(Output(), False)
+        with mock.patch.multiple(search, STEPS=0, STEPS_OF_FORMULA=1):
+            command("spare").run(context, words)
         said = GIVEN_UP.format(2, "t1")
         none = "no theorem was found that can do without bad"
-        told.assert_called_once_with(f"{path}: {none}; {said}")
+        self.assertEqual(context.remarks, [f"{path}: {none}; {said}"])
 
     def test_given_up_in_one_statement(self) -> None:
         """Hypotheses that could be matched in very many orders."""

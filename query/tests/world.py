@@ -10,7 +10,6 @@ import tempfile
 import unittest
 from dataclasses import dataclass, field
 from pathlib import Path
-from unittest import mock
 
 from query.answers.output import Output
 from query.arguments.context import Context
@@ -256,8 +255,7 @@ def answered(form: str, *words: str) -> bytes:
     is_taken = form in chosen.formats
     arguments = parser_of(chosen).read([*(["--format", form] if is_taken else []), *words[1:]])
     out = Output(getattr(arguments, "format", "text"))
-    with mock.patch("query.arguments.context.tell"):  # remarks, which are none of the tests'
-        chosen.run(Context(out, False), arguments)
+    chosen.run(Context(out, False), arguments)
     return b"".join(out.taken())
 
 
