@@ -53,7 +53,7 @@ theorems and axioms as the others; it is black where one of these theorems rests
 axioms. The picture is a PBM file (P4), or with --png a PNG file with axes and a legend: the headers
 of the database beside it (labels of theorems where it has none, and of a report), and labels of
 axioms above it. With --svg it is the same as an SVG file, whose lines and letters can be made
-larger.
+larger. The citations of a theorem are drawn by `graph`.
 
   $ mmquery picture set.mm --png > set.png
   $ mmquery picture set.mm --svg > set.svg

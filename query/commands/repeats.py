@@ -28,7 +28,8 @@ Lists the theorems that say what a statement before them says, or a special case
 order. They may be dropped or moved up, or kept as an alternative.
 
 theorem  its label
-earlier  that of the statement, an axiom or a theorem; of several the nearest, and the first one
+earlier  that of the statement, an axiom or a theorem; of several the first that says the same, or
+         else the first of which the theorem is weaker, or else the first of which it is an instance
 how      same:     both say the same, but for the names of variables
          weaker:   the same, with more hypotheses or more conditions of distinct variables
          instance: what the earlier one says with other formulas for its variables
