@@ -65,9 +65,9 @@ The conditions are these. The page SOUNDNESS says what follows from them, and wh
     + "".join(f"  {name:<9} {what}\n" for name, what in CONDITIONS.items())
     + """
 --trust names the definitions that are axioms, in place of df-bi, df-clab, df-cleq and df-clel;
---equality the syntax axioms of equalities, in place of ( wff <-> wff ) and class = class. --basis
-lists on what the verdicts rest: the grammar, what is on trust, the forms without a definition, and
-the theorems about equalities.
+--equality the syntax axioms of equalities, in place of ( wff <-> wff ) and class = class, or where
+neither is there, of T = T for another typecode T. --basis lists on what the verdicts rest: the
+grammar, what is on trust, the forms without a definition, and the theorems about equalities.
 
 --expand writes what LABEL says in primitive forms, its $e first, each on a line; new variables have
 names such as x_1. --without writes a database that has neither the definition LABEL nor its syntax

@@ -152,6 +152,10 @@ class Known:
                     labels.append(theorem.label)
         self.renaming(theorems)
 
+    def has_equal_formulas(self) -> bool:
+        """Whether there is an equality of formulas, and not just one of what these speak of."""
+        return WFF in self.equalities
+
     def implications(self, theorems: Sequence[ParsedTheorem]) -> Iterator[str]:
         """The forms for which there is a rule of detachment, and that aren't equalities."""
         for theorem in theorems:
@@ -187,6 +191,8 @@ class Known:
         if equation is not None and not theorem.pairs:
             yield from self.of_equation(theorem, *equation)
         yield from self.of_form(theorem)
+        if not self.has_equal_formulas():
+            yield from self.of_rule(theorem)
 
     def of_implication(self, theorem: ParsedTheorem) -> Iterator[Property]:
         """What a theorem says of the implication."""
@@ -249,6 +255,25 @@ class Known:
                 yield "respects", form, str(place)
                 if self.equality(theorem.said) is None:
                     yield "respects under", form, str(place)
+
+    def of_rule(self, theorem: ParsedTheorem) -> Iterator[Property]:
+        """That what equals a part of a formula may stand in its place: from `a = b` and `b =< c`
+        follows `a =< c`."""
+        said = theorem.said
+        if not is_rule(theorem, 2) or not isinstance(said, tuple) or said[0] not in self.forms:
+            return
+        for one, other in (theorem.given, theorem.given[::-1]):
+            equation = self.equality(other)
+            if equation is None or not is_of(one, said[0]):
+                continue
+            pairs = list(zip(one[1:], said[1:]))
+            changed = [place for place, (before, after) in enumerate(pairs) if before != after]
+            names = [name for each in pairs for name in dict.fromkeys(each)]
+            if len(changed) == 1 and are_variables(*names):
+                place = changed[0]
+                typecode = self.forms[said[0]].arguments[place]
+                if equation in ((typecode, *pairs[place]), (typecode, *pairs[place][::-1])):
+                    yield "carries", said[0], str(place)
 
     def under(
         self, theorem: ParsedTheorem

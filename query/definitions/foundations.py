@@ -122,11 +122,13 @@ class Grounds:
         self.rule(("through", form), through)
 
     def is_open(self, form: str) -> bool:
-        """Whether theorems say that equals may be put into a form without a definition."""
-        kinds = enumerate(self.known.forms[form].arguments)
+        """Whether theorems say that equals may be put into a form without a definition. Of formulas
+        without an equality they say so by rules."""
+        typecode, arguments = self.known.forms[form]
+        is_rule = typecode == WFF and not self.known.has_equal_formulas()
         return all(
-            ("respects", form, str(place)) in self.known.found
-            for place, kind in kinds
+            ("carries" if is_rule else "respects", form, str(place)) in self.known.found
+            for place, kind in enumerate(arguments)
             if kind != SETVAR
         )
 
@@ -136,7 +138,8 @@ class Grounds:
             if form in self.definers:
                 yield BEGINNING, self.definers[form]
         yield "reflexive", each.equality
-        yield "exists", "replaces"
+        if self.known.has_equal_formulas():
+            yield "exists", "replaces"
         for form in self.known.equalities.values():
             yield "exists", "symmetric", form
             yield "exists", "transitive", form
@@ -145,7 +148,7 @@ class Grounds:
 
     def for_dummies(self, each: Ground) -> Iterator[Need]:
         """What it needs besides where it has some."""
-        yield from (("detaches",), ("weakens",))
+        yield from (("exists", "replaces"), ("detaches",), ("weakens",))
         for form in self.known.equalities.values():
             yield from ((word, form) for word in ("symmetric", "transitive", "chained"))
         for form in sorted(each.forms):
@@ -171,13 +174,13 @@ class Grounds:
             None,
         )
 
-    def lacking(self, each: Ground, is_wrong: bool) -> tuple[str, str]:
-        """Why a definition isn't sound: the condition, and more. Where it `is_wrong`, its doubt."""
-        if WFF not in self.known.equalities and not is_wrong:
-            why = f"there is no equality of typecode {WFF}, by which what equals a theorem is one"
-            return "equality", f"{why}; definitions are only judged where there is one"
+    def lacking(self, each: Ground) -> tuple[str, str]:
+        """Why a definition isn't sound: the condition, and more."""
         if each.doubt is not None:
             return each.doubt
+        if each.has_dummies and not self.known.has_equal_formulas():
+            why = f"there is no equality of typecode {WFF}, by which what equals a theorem is one"
+            return "equality", f"it has a dummy, and {why}"
         need = self.first_lacking(of(each))
         if need[0] == BEGINNING:
             return "rests", f"its right side has a form of {need[1]}, which isn't seen to be sound"
@@ -265,6 +268,7 @@ def in_words(said: Need) -> str:
         "transitive": f"{form} is transitive",
         "chained": f"{form} is transitive under a condition",
         "replaces": f"what equals a theorem of typecode {WFF} is one",
+        "carries": f"what equals something may stand for it in {form}{part}",
         "detaches": "what a theorem implies is one",
         "weakens": "a theorem is implied by anything",
         "identity": "a formula implies itself",

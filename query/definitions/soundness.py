@@ -23,13 +23,14 @@ from query.platform import progress
 from query.texts.assertions import Assertion
 
 EQUATIONS = {("(", WFF, "<->", WFF, ")"), (CLASS, "=", CLASS)}
-"""The forms that are equalities where none are named, by typecodes in place of variables."""
+"""The forms that are equalities where none are named, by typecodes in place of variables. Where a
+database has none of them, those of formulas of another typecode T are that are written `T = T`."""
 TRUSTED = ("df-bi", "df-clab", "df-cleq", "df-clel")
 """The definitions that are axioms where none are named: those for which, as set.mm's page
 `conventions` says, its rules are too strict."""
 NO_EQUALITY = (
-    "there is no equality, ( wff <-> wff ) or class = class; `definitions --equality` names the"
-    " syntax axioms of others, of which one has to be of wffs"
+    "there is no equality, ( wff <-> wff ), class = class, or T = T of another typecode;"
+    " `definitions --equality` names the syntax axioms of others"
 )
 MOST_LEFT_VARIABLES = 100
 """Of more variables of a left side nothing is judged, since each two of them are looked at."""
@@ -253,14 +254,17 @@ class Definitions:
         return found
 
     def found_equalities(self, named: Sequence[str]) -> dict[str, str]:
-        """The equalities by typecode."""
+        """The equalities by typecode: those that are named, or else the usual ones, or else what is
+        written as one."""
+        shapes = self.grammar.shapes
+        usual = [label for label, shape in shapes.items() if shape in EQUATIONS]
+        others = [label for label, shape in shapes.items() if is_written_as_equality(shape)]
         found: dict[str, str] = {}
-        for label, shape in self.grammar.shapes.items():
-            if label in named or (not named and shape in EQUATIONS):
-                arguments = self.grammar.arguments[label]
-                is_formula = self.grammar.typecodes[label] == WFF
-                if is_formula and len(arguments) == 2 and arguments[0] == arguments[1]:
-                    found.setdefault(arguments[0], label)
+        for label in [label for label in shapes if label in named] if named else usual or others:
+            arguments = self.grammar.arguments[label]
+            is_formula = self.grammar.typecodes[label] == WFF
+            if is_formula and len(arguments) == 2 and arguments[0] == arguments[1]:
+                found.setdefault(arguments[0], label)
         return found
 
     def read(self, one: Assertion) -> None:
@@ -530,9 +534,8 @@ class Definitions:
         self.grounds = grounds
         for each in seen:
             if (BEGINNING, each.label) not in holds:
-                is_wrong = self.definitions[each.label].equals_anything()
-                condition, why = grounds.lacking(each, is_wrong)
-                sound = NO if is_wrong else UNKNOWN
+                condition, why = grounds.lacking(each)
+                sound = NO if self.definitions[each.label].equals_anything() else UNKNOWN
                 verdict = Verdict(each.label, sound, condition, why, each.defined)
             elif self.broken:
                 verdict = self.broken[0].verdict(each.label, each.defined)
@@ -551,7 +554,7 @@ class Definitions:
         for form in self.primitives():
             shape = " ".join((self.grammar.typecodes[form], *self.grammar.shapes[form]))
             closed = "; no theorem is found which says that equals may be put into it"
-            if self.grounds.is_open(form) or WFF not in self.equalities:
+            if self.grounds.is_open(form):
                 closed = ""
             yield "primitive", form, shape + closed
         for said in self.known.found:
@@ -586,6 +589,12 @@ class Definitions:
             frozenset(each.left),
             each.doubt,
         )
+
+
+def is_written_as_equality(shape: Sequence[str]) -> bool:
+    """Whether a form, by typecodes in place of variables, is `T = T`. A variable of typecode
+    `setvar` is no formula."""
+    return len(shape) == 3 and shape[1] == "=" and shape[0] == shape[2] != SETVAR
 
 
 def variable_as_left(name: str, right: Container[str]) -> Broken:

@@ -10,13 +10,21 @@ from collections import Counter
 from collections.abc import Sequence
 
 from query.definitions.clauses import Clauses
-from query.definitions.soundness import CONDITIONS, NO_EQUALITY, Definitions, rests_by
+from query.definitions.soundness import CONDITIONS, NO_EQUALITY, SHAPE, Definitions, rests_by
 from query.formulas.ambiguity import Comparison, GivenUp, ambiguity
 from query.formulas.grammar import STEPS, STEPS_OF_SYMBOL, FormulaReader, Grammar, NotRead, Tree
 from query.reports.choice import Options
 from query.reports.database import Database
 from query.tests.repositories import changed
-from query.tests.unsound import AXIOMS, BASE, DATABASES, SYMBOLS, WITHOUT_CONSTANTS
+from query.tests.unsound import (
+    AXIOMS,
+    BASE,
+    DATABASES,
+    IDENTITY,
+    SYMBOLS,
+    TERMS,
+    WITHOUT_CONSTANTS,
+)
 from query.tests.world import DATABASES as OF_DEBIAN, TOP, World, needs_program
 from tests.shared import metamath
 
@@ -250,19 +258,6 @@ class Rules(World):
         rows = self.answers("definitions", "db.mm", "--like", "df-s*", "--format", "tsv")
         self.assertEqual([row.split("\t")[0] for row in rows[1:]], ["df-sb", "df-ss"])
 
-    def test_no_equality_of_formulas(self) -> None:
-        """Equalities of terms alone say of no formula that it is a theorem, so that is the reason,
-        also where the definition has a dummy that a theorem would justify."""
-        text = "$c |- wff term = T o $. $v a b $. ta $f term a $. tb $f term b $.\n"
-        text += "weq $a wff a = b $. tt $a term T $. to $a term o a $. id $a |- a = a $.\n"
-        text += "df-t $a |- T = o a $.\n"
-        self.write("db.mm", text)
-        (row,) = self.query("definitions", "db.mm", "--equality=weq", "--format=json").rows()
-        self.assertEqual((row["sound"], row["condition"]), ("not judged", "equality"))
-        self.assertIn("there is no equality of typecode wff", str(row["why_not"]))
-        basis = self.answers("definitions", "db.mm", "--equality=weq", "--basis")
-        self.assertNotIn("no theorem", "".join(basis))
-
     def test_open_theorems(self) -> None:
         """A theorem that is left open says nothing."""
         text = LOGIC.replace("biid $a |- ( ph <-> ph )", "biid $p |- ( ph <-> ph ) $= ?")
@@ -295,8 +290,10 @@ class Proved(World):
                 label: (row["sound"], row["condition"] or "") for label, row in found.items()
             }
             self.assertEqual(verdicts, each.verdicts, each.name)
-            is_wrong = any(sound == "no" for sound, _ in verdicts.values())
-            self.assertEqual(done.status, int(is_wrong), each.name)
+            words = {sound for sound, _ in verdicts.values()}
+            has_another_shape = any(condition in SHAPE for _, condition in verdicts.values())
+            is_refused = "no" in words or has_another_shape or "yes" not in words
+            self.assertEqual(done.status, int(is_refused), each.name)
 
     def test_what_they_share_is_sound(self) -> None:
         """A right definition in the same place, so that what is found is by the wrong one."""
@@ -332,6 +329,79 @@ class Page(unittest.TestCase):
             self.assertTrue(
                 any(all(line in text for line in lines) for text in texts), (block, texts)
             )
+
+
+class Terms(World):
+    """Databases with an equality of terms, and none of formulas, as ql.mm."""
+
+    FOO = "$c F $. tfoo $a term F a $. df-foo $a |- F a = o o a $.\n"
+
+    def found(self, text: str, *words: str) -> tuple[object, object, str]:
+        """What is found of the one definition."""
+        self.write("db.mm", text)
+        (row,) = self.query("definitions", "db.mm", *words, "--format=json").rows()
+        return row["sound"], row["condition"], str(row["why_not"])
+
+    def test_what_is_needed(self) -> None:
+        text = TERMS + IDENTITY + self.FOO
+        self.assertEqual(self.found(text), ("yes", None, "None"))
+        self.assertEqual(self.found(text, "--equality=weq"), ("yes", None, "None"))
+        for label, why in (
+            ("id", "that weq is reflexive"),
+            ("com", "that weq is symmetric"),
+            ("tr", "that weq is transitive"),
+            ("ro", "that equals may be put into to in the place of its variable 1"),
+        ):
+            lines = [line for line in text.splitlines() if f"{label} $a " not in line]
+            sound, condition, why_not = self.found("\n".join(lines))
+            self.assertEqual((sound, condition), ("not judged", "equality"), label)
+            self.assertEqual(why_not, f"no theorem is found which says {why}")
+
+    def test_dummies(self) -> None:
+        """A theorem may justify them; names of bound variables aren't changed here."""
+        foo = "tfoo $a term Foo $. df-foo $a |- Foo = o a $.\n"
+        base = TERMS + IDENTITY
+        self.assertEqual(self.found(base + foo)[:2], ("not judged", "dummy"))
+        self.assertEqual(self.found(f"{base}same $a |- o a = o b $.\n{foo}")[0], "yes")
+        same = "same $a |- Foo = o b $.\n"
+        self.assertEqual(self.found(base + foo + same)[:2], ("not judged", "dummy"))
+        bound = foo.replace("o a $.", "\\ x ' x $.")
+        sound, condition, why = self.found(base + bound)
+        self.assertEqual((sound, condition), ("not judged", "equality"))
+        self.assertIn("it has a dummy, and there is no equality of typecode wff", why)
+        alone = foo.replace("o a $.", "a $.")
+        self.assertEqual(self.found(base + alone)[:2], ("no", "dummy"))
+
+    def test_the_usual_equality_comes_first(self) -> None:
+        """Where it is there, another one isn't taken for one unless it is named."""
+        usual = "$c <-> ( ) $. $v p q $. wp $f wff p $. wq $f wff q $. wb $a wff ( p <-> q ) $.\n"
+        text = TERMS + IDENTITY + usual + self.FOO
+        self.assertEqual(self.found(text)[:2], ("not judged", "form"))
+        self.assertEqual(self.found(text, "--equality=weq")[0], "yes")
+        other = text.replace(" = ", " == ").replace(usual, "")
+        self.assertEqual(self.found(other)[1:], ("form", NO_EQUALITY))
+
+    def test_basis(self) -> None:
+        """In which formulas what is equal may stand for one another, by rules."""
+        less = "$c =< $. wle $a wff a =< b $.\n"
+        rules = (
+            "${ l.1 $e |- a = b $. l.2 $e |- b =< c $. l $a |- a =< c $. $}\n",
+            "${ r.1 $e |- a =< b $. r.2 $e |- c = b $. r $a |- a =< c $. $}\n",
+        )
+        closed = "; no theorem is found which says that equals may be put into it"
+        says = "what equals something may stand for it in wle in the place of its variable"
+        for some, is_closed in (((), True), (rules[:1], True), (rules[1:], True), (rules, False)):
+            self.write("db.mm", TERMS + IDENTITY + less + "".join(some) + self.FOO)
+            rows = self.query("definitions", "db.mm", "--basis", "--format=json").rows()
+            found = {(str(row["what"]), row["label"]): row["says"] for row in rows}
+            self.assertEqual(found["equality", "weq"], "term = term")
+            self.assertEqual(found["primitive", "weq"], "wff term = term")
+            told = "wff term =< term" + (closed if is_closed else "")
+            self.assertEqual(found["primitive", "wle"], told, some)
+            for number, label in ((1, "l"), (2, "r")):
+                is_there = any(f" {label} $a" in rule for rule in some)
+                wanted = f"{says} {number}" if is_there else None
+                self.assertEqual(found.get(("theorem", label)), wanted)
 
 
 class Chosen(World):
@@ -438,17 +508,25 @@ class RealDatabases(unittest.TestCase):
         self.assertIn("equals under a condition may be put into wbd", left["df-bdc"])
         self.assertTrue(is_unambiguous)
 
+    def test_ql(self) -> None:
+        """The four that say by rules what a form is aren't of the form that is judged."""
+        counts, left, is_unambiguous = self.found("ql.mm")
+        self.assertEqual(counts, {"yes": 24, "not judged": 4})
+        rules = {label: "it has a $e" for label in ("df-le2", "df-c2")}
+        rules |= {label: "it is not LEFT = RIGHT" for label in ("df-le1", "df-c1")}
+        self.assertEqual(left, rules)
+        self.assertTrue(is_unambiguous)
+
     def test_nf(self) -> None:
         counts, left, is_unambiguous = self.found("nf.mm")
         self.assertEqual((counts, left), ({"yes": 152, "on trust": 4}, {}))
         self.assertTrue(is_unambiguous)
 
     def test_other_languages(self) -> None:
-        for name, count in (("ql.mm", 28), ("hol.mm", 11)):
-            counts, left, is_unambiguous = self.found(name)
-            self.assertEqual(counts, {"not judged": count})
-            self.assertEqual(set(left.values()), {NO_EQUALITY})
-            self.assertTrue(is_unambiguous)
+        counts, left, is_unambiguous = self.found("hol.mm")
+        self.assertEqual(counts, {"not judged": 11})
+        self.assertEqual(set(left.values()), {NO_EQUALITY})
+        self.assertTrue(is_unambiguous)
 
 
 Rule = tuple[str, str, tuple[str, ...]]

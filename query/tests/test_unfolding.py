@@ -152,3 +152,16 @@ class Gone(World):
             self.assertNotIn(f"\n    {label} $a", new)
             rests = self.query("rests", "new.mm", "2p2e4").lines()
             self.assertNotIn(label, rests)
+
+    @unittest.skipUnless((DATABASES / "ql.mm").exists(), "there is no ql.mm")
+    def test_ql(self) -> None:
+        """Those of ql.mm without a dummy. Its formulas have no equality, and those of terms have
+        all that is needed."""
+        text = (DATABASES / "ql.mm").read_text("latin-1")
+        self.write("ql.mm", text)
+        rows = self.query("definitions", "ql.mm", "--format=json").rows()
+        sound = [str(row["definition"]) for row in rows if row["sound"] == "yes"]
+        self.assertEqual(len(sound), 24)
+        sound.remove("df-t")
+        for label in sound:
+            self.assertNotIn(f"\n  {label} $a", self.without(text, label))

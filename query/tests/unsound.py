@@ -1,8 +1,9 @@
 """Databases with a wrong definition, and the proof of something that couldn't be proved without it.
 
-All share `AXIOMS`, which hold where variables of typecode `setvar` are sets, more than one of them,
-and those of typecode `class` are classes: so `F.` isn't a theorem. The theorem `bad` of a database
-is new by its definition.
+Most share `AXIOMS`, which hold where variables of typecode `setvar` are sets, more than one of
+them, and those of typecode `class` are classes: so `F.` isn't a theorem. Those over `TERMS` have no
+equality of formulas; there nothing but what has the same symbols is equal, and `Bad` isn't a
+theorem. The theorem `bad` of a database is new by its definition.
 """
 
 from dataclasses import dataclass, field
@@ -67,6 +68,20 @@ sp $a |- ( A. x ph -> ph ) $.
 AXIOMS = LOGIC + EQUALITY + RENAMING + SETS
 BASE = SYMBOLS + CONSTANTS + AXIOMS
 WITHOUT_CONSTANTS = SYMBOLS + AXIOMS
+TERMS = """$c |- wff term setvar = o ' T \\ Foo Bad $.
+$v a b c x y $.
+ta $f term a $. tb $f term b $. tc $f term c $. vx $f setvar x $. vy $f setvar y $.
+weq $a wff a = b $.
+wbad $a wff Bad $.
+tt $a term T $.
+to $a term o a $.
+tv $a term ' x $.
+tl $a term \\ x a $.
+${ com.1 $e |- a = b $. com $a |- b = a $. $}
+${ tr.1 $e |- a = b $. tr.2 $e |- b = c $. tr $a |- a = c $. $}
+${ ro.1 $e |- a = b $. ro $a |- o a = o b $. $}
+"""
+IDENTITY = "id $a |- a = a $.\n"
 
 FALSE = "c0 cvv wceq wfal {} ne ax-mp"
 """A proof of `F.` from one of `(/) = _V`."""
@@ -152,6 +167,7 @@ class Unsound:
 
 FOO = "$c Foo $. cfoo $a class Foo $.\n"
 WFOO = "$c Foo $. wfoo $a wff Foo $.\n"
+TFOO = "tfoo $a term Foo $.\n"
 
 DATABASES = [
     Unsound(
@@ -354,5 +370,31 @@ DATABASES = [
         "cfoo cfoo wp wfal cfoo p2 cfoo cfoo p1 ax-mp",
         {"df-foo": ("not judged", "pairs")},
         base=WITHOUT_CONSTANTS,
+    ),
+    Unsound(
+        "an equality of terms by which a term needn't be equal to itself",
+        TFOO + "${ use.1 $e |- a = a $. use $a |- Bad $. $} df-foo $a |- Foo = T $.\n",
+        "tt tt tfoo tt tfoo tt df-foo com df-foo tr use",
+        {"df-foo": ("not judged", "equality")},
+        base=TERMS,
+        theorem="Bad",
+    ),
+    Unsound(
+        "a dummy that is a term",
+        TFOO + "${ use.1 $e |- o T = o o T $. use $a |- Bad $. $} df-foo $a |- Foo = o a $.\n",
+        "tt to tfoo tt to to tfoo tt to tt df-foo com tt to df-foo tr use",
+        {"df-foo": ("not judged", "dummy")},
+        base=TERMS + IDENTITY,
+        theorem="Bad",
+    ),
+    Unsound(
+        "bound variables where formulas have no equality",
+        TFOO + "${ $d x y $. use.1 $e |- \\ x ' x = \\ y ' y $. use $a |- Bad $. $}\n"
+        "df-foo $a |- Foo = \\ x ' x $.\n",
+        "vx vy vx tv vx tl tfoo vy tv vy tl tfoo vx tv vx tl vx df-foo com vy df-foo tr use",
+        {"df-foo": ("not judged", "equality")},
+        base=TERMS + IDENTITY,
+        theorem="Bad",
+        distinct="$d x y $.",
     ),
 ]
