@@ -164,4 +164,5 @@ class Gone(World):
         self.assertEqual(len(sound), 24)
         sound.remove("df-t")
         for label in sound:
-            self.assertNotIn(f"\n  {label} $a", self.without(text, label))
+            self.without(text, label)
+            self.refuses("definitions", "new.mm", label, why=f"has no assertion '{label}'")
