@@ -30,7 +30,7 @@ from query.definitions.soundness import (
     Definitions,
     Verdict,
     is_definition,
-    rests_by,
+    cites_by,
 )
 from query.definitions.unfolding import statement, without
 from query.exports.graph_files import Kinds, lines_of
@@ -139,7 +139,7 @@ def judged(database: Database, trusted: list[str], equalities: list[str]) -> Def
             raise NoAnswer(f"{database.name}: {shown(label)} is no definition")
     assertions = database.text.assertions
     progress.now(f"judging the definitions of {database.name}")
-    found = Definitions(assertions, rests_by(database.graph()), trusted or TRUSTED, equalities)
+    found = Definitions(assertions, cites_by(database.graph()), trusted or TRUSTED, equalities)
     for label in equalities:
         database.assertion(label)
         if label not in found.equalities.values():

@@ -4,6 +4,9 @@ import argparse
 import re
 from collections.abc import Callable, Iterable, Iterator, Mapping, Sequence
 from dataclasses import dataclass, field
+from functools import cached_property, reduce
+from itertools import islice
+from operator import or_
 from typing import NamedTuple
 
 from query.answers.output import Value
@@ -65,7 +68,9 @@ gained   the axioms on which it came to rest; of a new or changed one those on w
          that OLD hasn't
 lost     the axioms on which it no longer rests
 via      for each axiom gained, by what: of the first new citation on a shortest chain to the axiom
-         what the theorem cites, or, where another theorem has that citation, which one
+         what the theorem cites, or, where another theorem has that citation, which one; of a new or
+         changed theorem the axiom, where it cites that, or the first that it cites and that rests
+         on it
 bytes    how much longer its text is, from the label to the end, than it was under the label `was`
          or else under its own; of a new one how long
 differ   of a changed one in what its statements differ, in words
@@ -143,14 +148,18 @@ def run(context: Context, arguments: argparse.Namespace) -> int:
     """Answers."""
     comparison = compared(context, arguments, options_of(arguments))
     causes = Causes(comparison)
+    fresh = NewAxioms(comparison)
     telling = Telling(most_of(context.out.format), hows_of(comparison))
     review = review_of(comparison, telling, causes)
+    # A comment shows so many rows.
+    for each in review.changes[: SHOWN_ROWS if context.out.format == "markdown" else None]:
+        fresh.add_to(each)
     changes = review.changes
     empty = why_empty(
         arguments, comparison, "have the same theorems, with the same proofs, in one order"
     )
     if context.out.format == "markdown":
-        context.out.text(comment(comparison, review, causes, telling))
+        context.out.text(comment(comparison, review, causes, fresh, telling))
         return 0
     counts = axioms_in_words(comparison, cut)
     counts += "".join(f"; {each}" for each in definitions_in_words(comparison, cut))
@@ -163,7 +172,7 @@ def run(context: Context, arguments: argparse.Namespace) -> int:
     }
     rows = [each.row() for each in changes]
     if context.out.format == "text":
-        first = [*new_in_words(comparison, changes, cut), *causes_in_words(causes, cut)]
+        first = [*new_in_words(fresh, cut), *causes_in_words(causes, cut)]
         context.out.text("".join(f"{each}\n" for each in (*first, "") if first))
     context.table(COLUMNS, rows, empty + told, aside=BOTH, remarks=remarks)
     if context.out.format == "text":
@@ -195,7 +204,6 @@ def review_of(comparison: Comparison, telling: Telling, causes: Causes) -> Revie
     for each in both_statements(comparison, "theorem", telling.most, telling.hows):
         found[each.label].change = each
     add_shifts(comparison, found, causes)
-    add_new_axioms(comparison, found)
     old, went = comparison.old_text, comparison.theorems.gone
     gone = [Outcome(label, ["gone"], bytes=-length(old, label)) for label in went]
     return Review([*found.values(), *axioms_now(comparison, telling), *gone], by_new_labels)
@@ -286,28 +294,61 @@ def add_shifts(comparison: Comparison, found: dict[str, Outcome], causes: Causes
                 change.lost.append(axiom)
 
 
-def arrivals(comparison: Comparison) -> Iterator[str]:
-    """The theorems of NEW for which OLD has none that says the same: new ones, and those whose
-    statement was changed."""
-    yield from comparison.theorems.new
-    yield from (one for one in comparison.restated if one not in comparison.theorems.renamed)
+class NewAxioms:
+    """The axioms that OLD hasn't, and the theorems of NEW that rest on them for which OLD has none
+    that says the same: new ones, and those whose statement was changed."""
 
+    def __init__(self, comparison: Comparison) -> None:
+        self.dependence = comparison.new.dependence
+        self.comparison = comparison
+        fresh = [axiom for was, axiom in axioms_of(comparison) if was is None and axiom is not None]
+        columns = self.dependence.columns
+        self.mask = self.dependence.mask_of([columns[axiom] for axiom in fresh])
 
-def add_new_axioms(comparison: Comparison, found: Mapping[str, Outcome]) -> None:
-    """Adds to these the axioms on which they rest and that OLD hasn't, and by what."""
-    dependence = comparison.new.dependence
-    rows = {dependence.rows.get(label) for label in arrivals(comparison)}
-    lacking = [axiom for was, axiom in axioms_of(comparison) if was is None and axiom is not None]
-    for axiom in lacking if rows else ():
-        users = dependence.users(dependence.columns[axiom])
-        resting = [row for row in users if row in rows]
-        if resting:
-            graph = dependence.graph
-            far = graph.distances(graph.node(axiom), users)
-            for row in resting:
-                outcome = found[dependence.theorems[row]]
-                outcome.gained.append(axiom)
-                outcome.via.append(graph.labels[graph.following(row, far)])
+    @cached_property
+    def rows(self) -> dict[str, int]:
+        """The rows of the theorems, by their labels. One that is left open has none."""
+        renamed = self.comparison.theorems.renamed
+        changed = (label for label in self.comparison.restated if label not in renamed)
+        known = self.dependence.rows
+        labels = (*self.comparison.theorems.new, *changed)
+        return {label: known[label] for label in labels if label in known}
+
+    def bits(self, row: int) -> int:
+        """The axioms on which the theorem of a row rests."""
+        return self.dependence.bits(row) & self.mask
+
+    @cached_property
+    def columns(self) -> list[int]:
+        """The columns of the axioms on which one of the theorems rests."""
+        return self.dependence.columns_of(reduce(or_, map(self.bits, self.rows.values()), 0))
+
+    def theorems(self, column: int) -> list[str]:
+        """The labels of the theorems that rest on the axiom of a column."""
+        rows = {*self.rows.values()}
+        users = self.dependence.users(column)
+        return [self.dependence.theorems[row] for row in users if row in rows]
+
+    def add_to(self, outcome: Outcome) -> None:
+        """Adds to what became of a theorem on which of the axioms it rests, and by what: what its
+        proof cites, the axiom itself or else the first theorem that rests on it."""
+        row = self.rows.get(outcome.label)
+        left = 0 if row is None else self.bits(row)
+        graph, via = self.dependence.graph, dict.fromkeys(self.dependence.columns_of(left), "")
+        cited = graph.cites[row] if row is not None and left else ()
+        for node in sorted(cited, key=graph.is_theorem):
+            found = left & self.bits_of(node)
+            left &= ~found
+            via |= dict.fromkeys(self.dependence.columns_of(found), graph.labels[node])
+        outcome.gained += [self.dependence.axioms[column] for column in via]
+        outcome.via += via.values()
+
+    def bits_of(self, node: int) -> int:
+        """The axioms on which an assertion rests, or the one that it is."""
+        if self.dependence.graph.is_theorem(node):
+            return self.bits(node)
+        column = self.dependence.columns.get(self.dependence.graph.labels[node])
+        return 0 if column is None else self.mask & self.dependence.mask_of([column])
 
 
 def old_axioms(comparison: Comparison) -> list[str]:
@@ -334,14 +375,17 @@ def counts_in_words(review: Review) -> str:
     return ", ".join(f"{count} {words}" for words, count in counts.items() if count)
 
 
-def comment(comparison: Comparison, review: Review, causes: Causes, telling: Telling) -> str:
+def comment(
+    comparison: Comparison, review: Review, causes: Causes, new: NewAxioms, telling: Telling
+) -> str:
     """The comment for a pull request. What comes from a database stands as code, in which nothing
     is a link or a mention, and labels have no sign that would end it."""
     changes = review.changes
     lines = [f"**Axioms**: {axioms_in_words(comparison, code) or 'no change'}.", ""]
-    fresh = new_in_words(comparison, changes, code)
-    lines += section("New and changed theorems on new axioms", fresh, "axioms")
-    lines += section("Edits that let axioms in", causes_in_words(causes, code), "edits")
+    fresh = islice(new_in_words(new, code), SHOWN_ROWS)
+    lines += section("New and changed theorems on new axioms", fresh, "axioms", len(new.columns))
+    edits = [*causes_in_words(causes, code)]
+    lines += section("Edits that let axioms in", edits[:SHOWN_ROWS], "edits", len(edits))
     if definitions := definitions_in_words(comparison, code):
         lines += ["**Definitions**:", "", *(f"- {each}" for each in definitions), ""]
     lines += [f"**Theorems**: {counts_in_words(review) or 'no change'}."]
@@ -360,12 +404,12 @@ def comment(comparison: Comparison, review: Review, causes: Causes, telling: Tel
     return "\n".join(lines) + "\n"
 
 
-def section(title: str, told: Iterable[str], what: str) -> list[str]:
-    """A heading, what is told under it, and how many more there are of that than are shown; nothing
-    where nothing is told."""
+def section(title: str, told: Iterable[str], what: str, count: int) -> list[str]:
+    """A heading, what is told under it, and how many more there are of that, where there are
+    `count`; nothing where nothing is told."""
     items = [f"- {each}." for each in told]
-    left = [f"- {len(items) - SHOWN_ROWS} more {what}."] if len(items) > SHOWN_ROWS else []
-    return [f"**{title}**:", "", *items[:SHOWN_ROWS], *left, ""] if items else []
+    left = [f"- {count - len(items)} more {what}."] if count > len(items) else []
+    return [f"**{title}**:", "", *items, *left, ""] if items else []
 
 
 def statement_lines(
@@ -424,27 +468,21 @@ def causes_in_words(causes: Causes, shown: Callable[[str], str]) -> Iterator[str
         yield f"{edit}, by which theorems came to rest on {counts}"
 
 
-def new_in_words(
-    comparison: Comparison, changes: Sequence[Outcome], shown: Callable[[str], str]
-) -> Iterator[str]:
+def new_in_words(new: NewAxioms, shown: Callable[[str], str]) -> Iterator[str]:
     """Each axiom that OLD hasn't and on which new or changed theorems rest, with these. `shown`
     says how a label is."""
-    arrived = set(arrivals(comparison))
-    resting: dict[str, list[str]] = {}
-    for each in changes:
-        for axiom in each.gained if each.label in arrived else ():
-            resting.setdefault(axiom, []).append(shown(each.label))
-    for axiom in filter(resting.__contains__, comparison.new.dependence.axioms):
-        named = listed(resting[axiom], SHOWN_NEW)
-        rests = f"new or changed theorems rest on it: {named}"
-        yield f"{shown(axiom)} is new among the axioms, and {rests}"
+    for column in new.columns:
+        theorems = new.theorems(column)
+        named = listed([*map(shown, theorems[:SHOWN_NEW])], SHOWN_NEW, len(theorems))
+        axiom = shown(new.dependence.axioms[column])
+        yield f"{axiom} is new among the axioms, and new or changed theorems rest on it: {named}"
 
 
 def definitions_in_words(comparison: Comparison, shown: Callable[[str], str]) -> list[str]:
     """What each new or changed definition defines, or why it isn't sound. `shown` says how what
     comes from a database is."""
     found = []
-    for label, equation, why in introduced(comparison).told():
+    for label, equation, why in introduced(comparison).told(shown):
         if equation is None:
             found.append(f"{shown(label)} is {why.partition(':')[0]}")
         else:
@@ -459,10 +497,11 @@ def cut(text: str) -> str:
     return text if len(text) <= SHOWN_LABEL else text[:SHOWN_LABEL] + ".."
 
 
-def listed(words: Sequence[str], most: int = SHOWN_ROWS) -> str:
-    """Words with commas between, and how many more there are than are shown."""
-    more = f" and {len(words) - most} more" if len(words) > most else ""
-    return ", ".join(words[:most]) + more
+def listed(words: Sequence[str], most: int = SHOWN_ROWS, count: int | None = None) -> str:
+    """Words with commas between, and how many more there are than are shown, of `count` if that is
+    given."""
+    left = (len(words) if count is None else count) - most
+    return ", ".join(words[:most]) + (f" and {left} more" if left > 0 else "")
 
 
 def code(text: str) -> str:

@@ -5,7 +5,8 @@ What a definition needs is a list of facts, each a tuple of words. That a defini
 out of proofs is one, `("df-", LABEL)`; what a theorem says is another, such as `("reflexive",
 "wb")`. `("under", FORM)` is that equals under a condition may be put into a form, unfolded, and
 that the variables which it binds may have other names; `("through", FORM)` that equals may be put
-into it. What holds is the least that the rules allow, so nothing rests on itself.
+into it. `("proved", LABEL)` is that an assertion rests on nothing but axioms and sound definitions.
+What holds is the least that the rules allow, so nothing rests on itself.
 """
 
 from __future__ import annotations
@@ -20,9 +21,12 @@ from query.texts.assertions import Assertion
 
 BEGINNING = "df-"
 
+FOUND_BY_OTHERS = ("under", "through", "proved")
+"""Facts that are found by rules over others of their kind."""
+
 Need = tuple[str, ...]
-Rests = Callable[[str], Iterable[str]]
-"""For the label of a theorem the axioms on which it rests."""
+Cites = Callable[[str], Collection[str]]
+"""For the label of a theorem what it cites; for an axiom, or one that is left open, nothing."""
 
 
 @dataclass(frozen=True)
@@ -53,13 +57,13 @@ class Grounds:
         grounds: Sequence[Ground],
         known: Known,
         definers: Mapping[str, str],
-        rests: Rests,
+        cites: Cites,
         trusted: Collection[str],
         unproved: Collection[str],
     ) -> None:
         self.known = known
         self.definers = definers
-        self.rests = rests
+        self.cites = cites
         self.trusted = trusted
         self.unproved = unproved
         self.clauses: Clauses[Need] = Clauses()
@@ -75,12 +79,18 @@ class Grounds:
         for said, theorems in sorted(self.known.found.items()):
             self.clauses.add(("exists", *said), [])
             for theorem in theorems:
-                self.clauses.add(said, self.definitions_of(theorem))
+                self.clauses.add(said, [self.proved(theorem)])
         holds = self.clauses.implied()
         left = [each for each in self.grounds if each.has_dummies and of(each) not in holds]
-        for each, theorem in justifications(left, assertions):
-            # What it needs besides is what it needs without its dummies.
-            self.clauses.add(of(each), [*self.plain(each), *self.definitions_of(theorem)])
+        wanted: dict[Need, list[Ground]] = {}
+        for each in left:
+            wanted.setdefault(with_typecodes(each.equation, each.kinds), []).append(each)
+        for key, theorem in justifications(wanted, assertions):
+            self.clauses.add(("justified", *key), [self.proved(theorem)])
+        for key, grounds in wanted.items():
+            for each in grounds:
+                # What it needs besides is what it needs without its dummies.
+                self.clauses.add(of(each), [*self.plain(each), ("justified", *key)])
         self.holds = self.clauses.implied() if left else holds
         return self.holds
 
@@ -154,14 +164,26 @@ class Grounds:
         for form in sorted(each.forms):
             yield "under", form
 
-    def definitions_of(self, theorem: str) -> list[Need]:
-        """The definitions on which a theorem rests, or an axiom, without those on trust; and what
-        it rests on that isn't proved."""
-        return [
-            (BEGINNING, each) if each.startswith(BEGINNING) else ("unproved", each)
-            for each in sorted({theorem, *self.rests(theorem)})
-            if each in self.unproved or (each.startswith(BEGINNING) and each not in self.trusted)
-        ]
+    def proved(self, label: str) -> Need:
+        """That an assertion is proved by what is sound. Adds what this needs, and what all needs
+        that it rests on, once each."""
+        left = [label]
+        while left:
+            fact = "proved", left.pop()
+            if fact not in self.needs:
+                self.rule(fact, self.needed_to_prove(fact[1]))
+                left += [each[1] for each in self.needs[fact] if each[0] == "proved"]
+        return "proved", label
+
+    def needed_to_prove(self, label: str) -> list[Need]:
+        """What a theorem cites; the definition that an axiom is, if it isn't on trust; and what
+        never holds for a theorem that is left open."""
+        if label in self.unproved:
+            return [("unproved", label)]
+        if cited := self.cites(label):
+            return [("proved", each) for each in cited]
+        is_definition = label.startswith(BEGINNING) and label not in self.trusted
+        return [(BEGINNING, label)] if is_definition else []
 
     def theorem_for(self, said: Need) -> str | None:
         """The first theorem that says something, and rests on nothing but what is sound."""
@@ -169,7 +191,7 @@ class Grounds:
             (
                 theorem
                 for theorem in self.known.found.get(said, ())
-                if all(each in self.holds for each in self.definitions_of(theorem))
+                if ("proved", theorem) in self.holds
             ),
             None,
         )
@@ -191,14 +213,15 @@ class Grounds:
         theorems = self.known.found.get(said, ())
         if not theorems:
             return condition, f"no theorem is found which says that {in_words(said)}"
-        bad = next(each for each in self.definitions_of(theorems[0]) if each not in self.holds)
+        bad = self.first_lacking(("proved", theorems[0]))
         return condition, f"{theorems[0]}, which says that {in_words(said)}, rests on {bad[1]}"
 
     def first_lacking(self, head: Need) -> Need:
-        """The first of what a fact needs that doesn't hold, itself or what a form needs."""
+        """The first of what a fact needs that doesn't hold, itself, or what a form or a proof
+        needs."""
         way = []
         need = head
-        while need == head or need[0] in ("under", "through"):
+        while need == head or need[0] in FOUND_BY_OTHERS:
             way.append(need)
             if need in self.because:
                 need = self.because[need]
@@ -214,15 +237,12 @@ def of(each: Ground) -> Need:
 
 
 def justifications(
-    grounds: Sequence[Ground], assertions: Iterable[Assertion]
-) -> Iterator[tuple[Ground, str]]:
-    """The definitions with the theorems that justify them: which say that the right side equals
-    itself with other dummies."""
-    wanted: dict[tuple[str, ...], list[Ground]] = {}
-    lengths = set()
-    for each in grounds:
-        wanted.setdefault(with_typecodes(each.equation, each.kinds), []).append(each)
-        lengths.add(len(each.equation))
+    wanted: Mapping[Need, Sequence[Ground]], assertions: Iterable[Assertion]
+) -> Iterator[tuple[Need, str]]:
+    """The theorems that say of a right side that it equals itself with other dummies, each with
+    what it says, by which the definitions are found that it justifies. Which of its variables are
+    dummies is the same for all of these."""
+    lengths = {len(grounds[0].equation) for grounds in wanted.values()}
     for one in assertions if wanted else ():
         formula = one.formula
         if one.typecode != PROVABLE or one.is_open or formula.count(" ") not in lengths:
@@ -232,9 +252,9 @@ def justifications(
         kinds = {each[-1]: each[0] for each in hypotheses}
         if all(each.kind == "f" for each in frame.hypotheses()):
             symbols = formula.split(" ")[1:]
-            for ground in wanted.get(with_typecodes(symbols, kinds), ()):
-                if do_pairs_allow(ground, symbols, frame.pairs()):
-                    yield ground, one.label
+            key = with_typecodes(symbols, kinds)
+            if key in wanted and do_pairs_allow(wanted[key][0], symbols, frame.pairs()):
+                yield key, one.label
 
 
 def with_typecodes(symbols: Sequence[str], kinds: Mapping[str, str]) -> tuple[str, ...]:

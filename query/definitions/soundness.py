@@ -15,7 +15,7 @@ from dataclasses import dataclass, field, replace
 
 from query.citations.graph import Graph
 from query.definitions.equality import Form, Known, ParsedTheorems
-from query.definitions.foundations import BEGINNING, Ground, Grounds, Rests, in_words
+from query.definitions.foundations import BEGINNING, Cites, Ground, Grounds, in_words
 from query.formulas.ambiguity import Ambiguity, ambiguity
 from query.formulas.grammar import Grammar, NotRead, Part, Tree, Twofold
 from query.formulas.syntax import CLASS, PROVABLE, SETVAR, WFF, parts_within, read_as
@@ -32,12 +32,14 @@ NO_EQUALITY = (
     "there is no equality, ( wff <-> wff ), class = class, or T = T of another typecode;"
     " `definitions --equality` names the syntax axioms of others"
 )
-MOST_LEFT_VARIABLES = 100
-"""Of more variables of a left side nothing is judged, since each two of them are looked at."""
+MOST_LEFT_VARIABLES = MOST_DUMMIES = 100
+"""Of more variables nothing is judged, since each two of them are looked at."""
+MOST_EQUALITIES = 10
+"""So many are found where none are named, since each definition needs what theorems say of all."""
 
 CONDITIONS = {
     "grammar": "each formula has one tree, by all syntax axioms of the database",
-    "syntax": "a syntax axiom has no $e, no $d, and no variable twice",
+    "syntax": "a syntax axiom has no $e, no $d, and no variable twice, and no variable is of |-",
     "setvar": "no syntax axiom is of typecode setvar",
     "read": "each axiom is built by the syntax axioms",
     "form": "it is LEFT = RIGHT, by an equality, without a $e",
@@ -181,24 +183,28 @@ class Scopes:
 
 
 class Definitions:
-    """Judges the definitions of a database. `rests` says on which axioms a theorem rests; `trusted`
-    are definitions that are taken as axioms, and `equalities` the syntax axioms of the equalities,
-    where these aren't `( wff <-> wff )` and `class = class`."""
+    """Judges the definitions of a database. `cites` says what a theorem cites; `trusted` are
+    definitions that are taken as axioms, and `equalities` the syntax axioms of the equalities,
+    where these aren't `( wff <-> wff )` and `class = class`. Theorems that are left open are axioms
+    here."""
 
     def __init__(
         self,
         assertions: Sequence[Assertion],
-        rests: Rests,
+        cites: Cites,
         trusted: Collection[str] = TRUSTED,
         equalities: Sequence[str] = (),
     ) -> None:
-        axioms = [one for one in assertions if one.letter == "a"]
-        self.rests = rests
+        axioms = [one for one in assertions if one.letter != "p"]
+        self.cites = cites
         self.trusted = frozenset(trusted)
         self.typecodes = {WFF, *(kind for one in axioms for kind in read_as(one)[1].values())}
         self.grammar, self.backward = Grammar(), Grammar()
         self.broken: list[Broken] = []
         """What is broken in the database, so that no definition is sound."""
+        if PROVABLE in self.typecodes:
+            why = f"a variable is of typecode {PROVABLE}, so anything that is proved may replace it"
+            self.broken.append(Broken("syntax", why, True))
         for one in axioms:
             if self.is_syntax(one):
                 self.add_syntax(one)
@@ -259,6 +265,7 @@ class Definitions:
         shapes = self.grammar.shapes
         usual = [label for label, shape in shapes.items() if shape in EQUATIONS]
         others = [label for label, shape in shapes.items() if is_written_as_equality(shape)]
+        others = others[:MOST_EQUALITIES]
         found: dict[str, str] = {}
         for label in [label for label in shapes if label in named] if named else usual or others:
             arguments = self.grammar.arguments[label]
@@ -282,7 +289,8 @@ class Definitions:
             for form in tree.rules.values():
                 self.first.setdefault(form, one)
         variables = read_as(one)[1]
-        for name, other in one.frame().pairs() if self.pair is None else ():
+        may_have_pair = sum(kind != SETVAR for kind in variables.values()) > 1
+        for name, other in one.frame().pairs() if may_have_pair and self.pair is None else ():
             if SETVAR not in (variables[name], variables[other]):
                 self.pair = f"{one.label} has a $d of {name} and {other}"
                 break
@@ -346,8 +354,8 @@ class Definitions:
     def note_definer(self, one: Assertion, tree: Tree) -> None:
         """Notes the form of which a definition wants to be one. What other axioms have before is
         primitive, whatever is said of it later."""
-        left = tree.below.get(tree.root, [tree.root])[0]
-        form = tree.rules.get(left)
+        parts = tree.below.get(tree.root)
+        form = tree.rules.get(parts[0]) if parts else None
         if form is not None and one.label not in self.trusted:
             user = self.first[form]
             if is_definition(user) and user.label not in self.trusted:
@@ -433,6 +441,11 @@ class Definitions:
     def see(self, each: Definition) -> None:
         """Broken where a definition doesn't keep what is seen of itself and what is before it."""
         self.see_new(each)
+        if len(each.left) > MOST_LEFT_VARIABLES:
+            why = f"the left side has more than {MOST_LEFT_VARIABLES} variables"
+            raise Broken("left", why, True)
+        if len(each.dummies()) > MOST_DUMMIES:
+            raise Broken("distinct", f"it has more than {MOST_DUMMIES} dummies", True)
         see_distinct(each)
         self.see_forms(each)
         self.see_bound(each)
@@ -470,9 +483,6 @@ class Definitions:
     def see_bound(self, each: Definition) -> None:
         """Broken where a dummy isn't bound on the right side. Where that isn't seen, a theorem has
         to say that it does no harm. Notes what the form binds."""
-        if len(each.left) > MOST_LEFT_VARIABLES:
-            why = f"the left side has more than {MOST_LEFT_VARIABLES} variables"
-            raise Broken("left", why, True)
         scopes = self.scopes(each)
         for name, kind in each.dummies().items():
             if kind != SETVAR:
@@ -529,7 +539,7 @@ class Definitions:
         """Finds which definitions rest on nothing but what is sound without them."""
         seen = [self.ground(each) for each in self.definitions.values()]
         unproved = {one.label for one in assertions if one.is_open}
-        grounds = Grounds(seen, self.known, self.definers, self.rests, self.trusted, unproved)
+        grounds = Grounds(seen, self.known, self.definers, self.cites, self.trusted, unproved)
         holds = grounds.found(assertions)
         self.grounds = grounds
         for each in seen:
@@ -608,13 +618,16 @@ def variable_as_left(name: str, right: Container[str]) -> Broken:
 def binding_of(each: Definition, scopes: Scopes) -> Binding:
     """What the form of a definition binds."""
     setvars = [number for number, name in enumerate(each.left) if each.variables[name] == SETVAR]
-    others = [number for number in range(len(each.left)) if number not in setvars]
     binds = {}
     for number in setvars:
         name = each.left[number]
-        places = {other: scopes.places.get(each.left[other], ()) for other in others}
+        places = {
+            other: (scopes.free if other in setvars else scopes.places).get(each.left[other], ())
+            for other in range(len(each.left))
+            if other != number
+        }
         binds[number] = frozenset(
-            other for other in others if scopes.are_within(places[other], name)
+            other for other, those in places.items() if scopes.are_within(those, name)
         )
     free = frozenset(number for number in setvars if scopes.is_free(each.left[number]))
     return Binding(free, binds)
@@ -636,15 +649,14 @@ def see_distinct(each: Definition) -> None:
                 raise Broken("distinct", why)
 
 
-def rests_by(graph: Graph) -> Rests:
-    """On which axioms a theorem rests, by the citations of a database."""
+def cites_by(graph: Graph) -> Cites:
+    """What a theorem cites, by the citations of a database."""
 
-    def rests(label: str) -> list[str]:
+    def cites(label: str) -> list[str]:
         node = graph.index.get(label)
-        below = () if node is None else graph.below([node])
-        return [graph.labels[each] for each in below if not graph.is_theorem(each)]
+        return [] if node is None else [graph.labels[each] for each in graph.cites[node]]
 
-    return rests
+    return cites
 
 
 def is_definition(one: Assertion) -> bool:

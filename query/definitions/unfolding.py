@@ -33,6 +33,8 @@ from query.texts.uncommented import without_comments
 MOST_SYMBOLS, MOST_CHANGED = 3_000_000, 30_000_000
 """So many symbols and parts are gone through at the most, to unfold a statement, and to take a
 definition out of a database."""
+SIGNS_OF_SYMBOL = 16
+"""A symbol counts as one more for so many of its signs."""
 STRETCH, FORMULAS_TOLD, PROOFS_TOLD = 100_000, 10_000, 100
 """After so many of these it is told how far it is; of a database after so many formulas, and after
 so many proofs that are changed."""
@@ -77,6 +79,7 @@ class Unfolder:
             each = left.pop()
             self.take()
             if isinstance(each, str):
+                self.take(len(each) // SIGNS_OF_SYMBOL)
                 found.append(each)
             elif each.part not in each.tree.rules:
                 name = each.symbols[each.part.start]

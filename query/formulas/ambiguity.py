@@ -18,9 +18,11 @@ from typing import NamedTuple
 
 from query.formulas.grammar import Grammar, Node
 
-STEPS, STEPS_OF_SYMBOL = 200_000, 20
-"""So many steps, and so many for each symbol of the syntax axioms, are taken at the most. set.mm's
-grammar takes some 6,000."""
+STEPS, STEPS_OF_SYMBOL, MOST_STEPS = 200_000, 20, 2_000_000
+"""So many steps, and so many for each symbol of the syntax axioms, are taken at the most, and no
+more than that in all, since each state is kept. set.mm's grammar takes some 6,000."""
+AXIOMS_OF_STEP = 8
+"""To keep a state counts as a step for so many axioms within one another."""
 MOST_DEPTH = 100
 """So many axioms within one another are followed at the most: each state has all of them."""
 SHOWN_SYMBOLS = 30
@@ -100,7 +102,7 @@ class Comparison:
     def __init__(self, grammar: Grammar, turned: bool) -> None:
         self.roots = grammar.roots
         self.turned = turned
-        self.left = STEPS + STEPS_OF_SYMBOL * grammar.size
+        self.left = min(STEPS + STEPS_OF_SYMBOL * grammar.size, MOST_STEPS)
         self.seen: dict[State, Origin] = {}
         self.todo: list[State] = []
         self.begun: dict[str, dict[str, list[Begun]]] = {}
@@ -206,6 +208,7 @@ class Comparison:
         if state not in self.seen:
             if max(len(state.one), len(state.other)) > MOST_DEPTH:
                 raise GivenUp
+            self.take((len(state.one) + len(state.other)) // AXIOMS_OF_STEP)
             self.seen[state] = Origin(origin, end, symbols)
             self.todo.append(state)
 

@@ -8,13 +8,13 @@ thing, since that speaks of the form, itself or by other definitions.
 
 from __future__ import annotations
 
-from collections.abc import Iterator
+from collections.abc import Callable, Iterator
 from functools import cached_property, lru_cache
 
 from query.comparisons.changes import Comparison, Side
 from query.comparisons.pairing import ANOTHER_ORDER
 from query.definitions.foundations import BEGINNING
-from query.definitions.soundness import NO, TRUST, UNKNOWN, YES, Definitions, Verdict, rests_by
+from query.definitions.soundness import NO, TRUST, UNKNOWN, YES, Definitions, Verdict, cites_by
 from query.gate.config import Config
 from query.gate.labels import Labels
 from query.texts.assertions import Assertion
@@ -90,8 +90,8 @@ class Introduced:
         is_judged = "axioms" in config.rules and config.typecode in (None, one.typecode)
         return not is_judged or config.allows("axioms", one.label)
 
-    def reason(self, one: Assertion) -> str:
-        """Why a definition isn't let in."""
+    def reason(self, one: Assertion, shown: Callable[[str], str] = str) -> str:
+        """Why a definition isn't let in. `shown` says how labels are."""
         verdict = self.judged.verdicts.get(one.label)
         if verdict is None:
             return (
@@ -100,21 +100,23 @@ class Introduced:
         word = "changed" if one.label in self.comparison.axioms.changed else "new"
         axiom = self.changes(one.label)
         if axiom:
-            form = verdict.defines
-            return (
-                f"a {word} definition of {form}, of which {axiom} speaks: that says another thing"
-            )
+            form = shown(str(verdict.defines))
+            speaks = f"of which {shown(axiom)} speaks: that says another thing"
+            return f"a {word} definition of {form}, {speaks}"
         condition = f" (condition `{verdict.condition}`)" if verdict.condition else ""
         why = f": {verdict.why}" if verdict.why else ""
         return f"a {word} definition that {WORDS[verdict.sound]}{condition}{why}"
 
-    def told(self) -> Iterator[tuple[str, tuple[str, str] | None, str]]:
-        """Each definition, with the two sides where it is sound, and otherwise why it isn't."""
+    def told(
+        self, shown: Callable[[str], str]
+    ) -> Iterator[tuple[str, tuple[str, str] | None, str]]:
+        """Each definition, with the two sides where it is sound, and otherwise why it isn't, by
+        labels that are `shown` so."""
         for one in self.axioms:
             if is_called(one):
                 is_sound = one.label in self.harmless
                 sides = self.judged.sides(one.label) if is_sound else None
-                yield one.label, sides, "" if is_sound else self.reason(one)
+                yield one.label, sides, "" if is_sound else self.reason(one, shown)
 
     def lost(self, config: Config) -> Iterator[tuple[str, str]]:
         """The definitions that were sound, and aren't by what else is let in; one for each
@@ -135,7 +137,7 @@ class Introduced:
 
 def judged_side(side: Side) -> Definitions:
     """The verdicts on a database."""
-    return Definitions(side.database.text.assertions, rests_by(side.graph))
+    return Definitions(side.database.text.assertions, cites_by(side.graph))
 
 
 def is_called(one: Assertion) -> bool:

@@ -11,7 +11,7 @@ from __future__ import annotations
 from functools import cached_property
 
 from query.definitions.foundations import BEGINNING
-from query.definitions.soundness import YES, Definitions, rests_by
+from query.definitions.soundness import YES, Definitions, cites_by
 from query.reports.database import Database
 from query.spare.kept import Change
 from query.texts.discouraged import is_discouraged
@@ -48,5 +48,5 @@ class Ranking:
     @cached_property
     def sound(self) -> frozenset[str]:
         """The definitions that are sound."""
-        judged = Definitions(self.text.assertions, rests_by(self.database.graph()))
+        judged = Definitions(self.text.assertions, cites_by(self.database.graph()))
         return frozenset(label for label, each in judged.verdicts.items() if each.sound == YES)

@@ -10,7 +10,7 @@ from collections import Counter
 from collections.abc import Sequence
 
 from query.definitions.clauses import Clauses
-from query.definitions.soundness import CONDITIONS, NO_EQUALITY, SHAPE, Definitions, rests_by
+from query.definitions.soundness import CONDITIONS, NO_EQUALITY, SHAPE, Definitions, cites_by
 from query.formulas.ambiguity import Comparison, GivenUp, ambiguity
 from query.formulas.grammar import STEPS, STEPS_OF_SYMBOL, FormulaReader, Grammar, NotRead, Tree
 from query.reports.choice import Options
@@ -487,7 +487,7 @@ class RealDatabases(unittest.TestCase):
         if not path.exists():
             self.skipTest(f"{name} isn't installed")
         database = Database.opened(str(path), uses_cache=False, options=OPTIONS)
-        judged = Definitions(database.text.assertions, rests_by(database.graph()))
+        judged = Definitions(database.text.assertions, cites_by(database.graph()))
         verdicts = judged.verdicts.values()
         trusted = [each.label for each in verdicts if each.sound == "on trust"]
         self.assertIn(trusted, ([], self.TRUSTED))
