@@ -299,7 +299,7 @@ complete -c mmquery -n '__fish_seen_subcommand_from unneeded' -l no-cache -d 'ke
 complete -c mmquery -n '__fish_seen_subcommand_from unneeded' -l limit-time -r -d 'of the processor, for verifying a text (else: 10, and 5 for each MB)'
 complete -c mmquery -n '__fish_seen_subcommand_from unneeded' -l limit-memory -r -d 'for verifying a text (else: 256, and 64 for each MB)'
 complete -c mmquery -n '__fish_seen_subcommand_from unneeded' -s h -l help -d 'show this page'
-complete -c mmquery -n '__fish_seen_subcommand_from top' -l theorems -d 'rank theorems, not axioms'
+complete -c mmquery -n '__fish_seen_subcommand_from top' -l theorems -d 'the theorems that rest on most axioms, not axioms'
 complete -c mmquery -n '__fish_seen_subcommand_from top' -l below -r -d 'all axioms on which fewer than B theorems rest'
 complete -c mmquery -n '__fish_seen_subcommand_from top' -l outside-mathboxes -d 'count only theorems that stand in no mathbox'
 complete -c mmquery -n '__fish_seen_subcommand_from top' -l against -r -d 'axioms on which another number rests than in OLD'

@@ -34,8 +34,8 @@ label      an assertion that states it; nothing where there is none
 by         the links from the statement to AX; nothing where it says what AX says
 from       how AX gives it: what states it, or the links from AX to it
 statement  what it says
-rests      the axioms on which all these rest, besides AX; in the form text only with an option that
-           chooses axioms
+rests      the axioms on which all these rest, besides AX, and if AX is a theorem besides those on
+           which it rests itself; in the form text only with an option that chooses axioms
 
 Of distinct variables neither a link may ask more than AX does, nor an assertion that states what
 leads to AX. What isn't said by such links isn't found. Where no row has a link, so that all only
@@ -72,20 +72,22 @@ def run(context: Context, arguments: argparse.Namespace) -> int:
     is_chosen = arguments.only or arguments.all or arguments.axioms or arguments.ignore_definitions
     why = f"{database.name}: no statement is found that gives {arguments.axiom} back"
     context.table(COLUMNS, rows, why, aside=[] if is_chosen else ["rests"])
-    said = [*told_of_proved(rows, arguments.axiom, others)]
+    said = [*told_of_proved(database, rows, arguments.axiom, others)]
     said += told_of_links(database, rows, arguments.axiom)
     if said:
         context.tell(f"{database.name}: {'; '.join(said)}")
     return 0
 
 
-def told_of_proved(rows: list[list[Value]], axiom: str, others: list[str]) -> Iterator[str]:
+def told_of_proved(
+    database: Database, rows: list[list[Value]], axiom: str, others: list[str]
+) -> Iterator[str]:
     """That what isn't given up proves the axiom, where it does."""
-    proved = next((row for row in rows if row[0] == "proved"), None)
+    proved = next((str(row[1]) for row in rows if row[0] == "proved"), None)
     if proved is not None:
-        named = ",".join([*others, *last_of(proved[-1])])
+        named = ",".join([*others, *last_below(database, proved, axiom)])
         advice = f"; --without {named} gives more of them up" if named else ""
-        yield f"the others give {axiom}, by {proved[1]}{advice}"
+        yield f"the others give {axiom}, by {proved}{advice}"
 
 
 def told_of_links(database: Database, rows: list[list[Value]], axiom: str) -> Iterator[str]:
@@ -109,10 +111,14 @@ def labels_above(graph: Graph, labels: Iterable[str]) -> set[str]:
     return {graph.labels[node] for node in graph.above(map(graph.node, labels))}
 
 
-def last_of(rests: Value) -> list[str]:
-    """The last of the axioms of a row, which is the likeliest to say as much as the one that is
-    asked about; none where there are none."""
-    return [str(each) for each in rests[-1:]] if isinstance(rests, list) else []
+def last_below(database: Database, label: str, axiom: str) -> list[str]:
+    """What is likeliest to say as much as the axiom that is asked about, which this assertion says:
+    itself, or the last axiom without a `$e` on which it rests; nothing where there is none."""
+    text = database.text
+    if text.by_label[label].kind == "a":
+        return [label]
+    rests = rests_of(database, {label}, axiom)
+    return [each for each in rests if not text.by_label[each].frame().essential()][-1:]
 
 
 def row_of(database: Database, search: Search, found: Found) -> list[Value]:
@@ -126,7 +132,14 @@ def row_of(database: Database, search: Search, found: Found) -> list[Value]:
 
 
 def rests_of(database: Database, labels: set[str], axiom: str) -> list[str]:
-    """The axioms on which assertions rest, but for one of them."""
+    """The axioms on which assertions rest, but for one of them, or if that is a theorem for those
+    on which it rests."""
+    columns = columns_below(database, labels) - columns_below(database, {axiom})
+    return [database.dependence().axioms[each] for each in sorted(columns)]
+
+
+def columns_below(database: Database, labels: set[str]) -> set[int]:
+    """The columns of the axioms on which assertions rest, or which they are."""
     dependence = database.dependence()
     columns: set[int] = set()
     for label in labels:
@@ -134,7 +147,7 @@ def rests_of(database: Database, labels: set[str], axiom: str) -> list[str]:
             columns.update(dependence.rests(dependence.rows[label]))
         elif label in dependence.columns:
             columns.add(dependence.columns[label])
-    return [name for each in sorted(columns) if (name := dependence.axioms[each]) != axiom]
+    return columns
 
 
 COMMANDS = [Command("equivalents", PAGE, configure, run)]

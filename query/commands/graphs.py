@@ -98,7 +98,8 @@ def chosen_part(graph: Graph, arguments: argparse.Namespace) -> Part:
         return subgraphs.whole(graph)
     end = None if arguments.on is None else graph.node(arguments.on)
     order = "THEOREM comes first, and ON behind it"
-    start = graph.theorem(arguments.theorem, end, order, "`needs` shows what is under its symbols")
+    otherwise = "`falls` and `cited-by` list what rests on it, `needs` what is under its symbols"
+    start = graph.theorem(arguments.theorem, end, order, otherwise)
     nodes = graph.below([start])
     if end is not None:
         nodes &= graph.above([end])

@@ -16,7 +16,8 @@ from query.texts.text import Text
 
 TOP_PAGE = """
 Lists the axioms on which most theorems rest. With --theorems, the theorems that rest on most
-axioms. Equal ones are in file order.
+axioms. Equal ones are in file order. How often each theorem is cited is told by `uncited DATABASE
+--at-most 999999`.
 
 theorems  how many theorems rest on it (with --theorems, axioms: on how many it rests)
 axiom     the label of the axiom (with --theorems, theorem)
@@ -99,7 +100,7 @@ def configure_top(parser: Parser) -> None:
     )
     parser.exclude("--theorems", "--below", "--against")
     parser.exclude("--theorems", "--outside-mathboxes", "--against")
-    parser.flag("--theorems", "rank theorems, not axioms")
+    parser.flag("--theorems", "the theorems that rest on most axioms, not axioms")
     parser.value("--below", "B", "all axioms on which fewer than B theorems rest", type=positive)
     parser.flag("--outside-mathboxes", "count only theorems that stand in no mathbox")
     parser.value("--against", "OLD", "axioms on which another number rests than in OLD")

@@ -30,7 +30,7 @@ order. They may be dropped or moved up, or kept as an alternative.
 theorem  its label
 earlier  that of the statement, an axiom or a theorem; of several the first that says the same, or
          else the first of which the theorem is weaker, or else the first of which it is an instance
-how      same:     both say the same, but for the names of variables
+how      same:     both say the same, but for the names of variables and the order of hypotheses
          weaker:   the same, with more hypotheses or more conditions of distinct variables
          instance: what the earlier one says with other formulas for its variables
 only     the axioms on which the theorem rests, and the earlier one doesn't
@@ -99,10 +99,11 @@ def run(context: Context, arguments: argparse.Namespace) -> int:
     known = {row[0] for row in rows}
     left_out = [row[0] for row in others if row[0] not in known]
     so = "" if how is None else f" in the way '{how}'"
+    among = context.filters.in_words()
     context.table(
         COLUMNS,
         [[*row, *rests_apart(dependence, row[0], row[1])] for row in rows],
-        f"{database.name}: no theorem says what an earlier statement says{so}",
+        f"{database.name}: no theorem says what an earlier statement says{so}{among}",
         "theorem",
         remarks={
             LEFT_OUT: left_out,

@@ -301,7 +301,9 @@ class Search:
         self.given_up = given_up
         side = next((links.statement(each) for each in links.all if each.one is axiom), None)
         if side is None:
-            raise NoAnswer(f"{axiom.label} has a $e, or isn't read by the syntax axioms")
+            has_given = axiom.frame().essential()
+            why = "has a $e" if has_given else "isn't read by the syntax axioms"
+            raise NoAnswer(f"{axiom.label} {why}")
         self.start = side
         self.pairs = numbered(axiom.frame().pairs(), side)
         self.ways: dict[str, list[Way]] = {side.key: [Way((), self.pairs)]}

@@ -300,6 +300,45 @@ def resting_on_all(count: int) -> Files:
     return two(axioms(count), axioms(count) + new, 'watch = ["a*"]\n')
 
 
+def arriving(count: int) -> Files:
+    """New axioms, and new theorems of which each rests on all before it."""
+    before = ["ax", *names(count)]
+    lines = (
+        f"a{number} $a |- p $.\n{theorem(f't{number}', f'a{number}', before[number])}"
+        for number in range(count)
+    )
+    return two("", "".join(lines))
+
+
+def justified(count: int) -> Files:
+    """Definitions with one right side, and theorems that justify it, each of which rests on a chain
+    of theorems."""
+    old = """$c |- wff ( ) -> <-> $. $v ph ps ch $.
+wph $f wff ph $. wps $f wff ps $. wch $f wff ch $.
+wi $a wff ( ph -> ps ) $. wb $a wff ( ph <-> ps ) $. id $a |- ( ph -> ph ) $.
+biid $a |- ( ph <-> ph ) $. just $a |- ( ( ph -> ph ) <-> ( ps -> ps ) ) $.
+${ s1 $e |- ( ph <-> ps ) $. sy $a |- ( ps <-> ph ) $. $}
+${ t1 $e |- ( ph <-> ps ) $. t2 $e |- ( ps <-> ch ) $. tr $a |- ( ph <-> ch ) $. $}
+${ m1 $e |- ph $. m2 $e |- ( ph <-> ps ) $. mp $a |- ps $. $}
+${ i1 $e |- ( ph <-> ps ) $. i1r $a |- ( ( ph -> ch ) <-> ( ps -> ch ) ) $.
+i2r $a |- ( ( ch -> ph ) <-> ( ch -> ps ) ) $. $}
+${ k1 $e |- ph $. k2 $e |- ps $. k $a |- ps $. $}
+"""
+    one = "wph wph wi"
+    lines = ["c0 $p |- ( ph -> ph ) $= wph id $."]
+    for number in range(1, count):
+        cited = f"wph c{number - 1}"
+        lines.append(f"c{number} $p |- ( ph -> ph ) $= {one} {one} {cited} {cited} k $.")
+    for number in range(count):
+        proof = f"{one} {one} wps wps wi wb wph c{count - 1} wph wps just k"
+        lines.append(f"j{number} $p |- ( ( ph -> ph ) <-> ( ps -> ps ) ) $= {proof} $.")
+        syntax = f"$c D{number} $. d{number} $a wff D{number} $."
+        lines.append(f"{syntax} df-d{number} $a |- ( D{number} <-> ( ph -> ph ) ) $.")
+    new = old + "\n".join(lines) + "\n"
+    files = {"a.mm": old, "b.mm": new, "mmdepend.toml": "definitions = true\n"}
+    return {name: text.encode() for name, text in files.items()}
+
+
 def one_proof(count: int) -> Files:
     """Theorems that all came to rest on a watched axiom by one proof."""
     users = theorem("u0", "t") + "".join(
@@ -589,6 +628,10 @@ SHAPES = [
     Shape("words with `*`", patterns, 5_000, 10_000, ("gate a.mm b.mm",)),
     Shape("theorems on all watched axioms", resting_on_all, 300, 400,
           ("gate a.mm b.mm", "gate --all a.mm b.mm"), is_answer=True),
+    Shape("new theorems on new axioms", arriving, 2_000, 2_000,
+          ("review a.mm b.mm --format markdown",), is_answer=True),
+    Shape("theorems that justify definitions", justified, 2_000, 1_000,
+          ("gate a.mm b.mm", "definitions b.mm", "review a.mm b.mm")),
     Shape("theorems by one proof", one_proof, 40_000, 20_000,
           ("gate a.mm b.mm", "gate --all a.mm b.mm", "review a.mm b.mm")),
     Shape("includes in comments", includes, 100_000, 30_000, ("gate a.mm b.mm", "verify b.mm")),

@@ -10,7 +10,14 @@ from collections import Counter
 from collections.abc import Sequence
 
 from query.definitions.clauses import Clauses
-from query.definitions.soundness import CONDITIONS, NO_EQUALITY, SHAPE, Definitions, cites_by
+from query.definitions.soundness import (
+    CONDITIONS,
+    MOST_DUMMIES,
+    NO_EQUALITY,
+    SHAPE,
+    Definitions,
+    cites_by,
+)
 from query.formulas.ambiguity import Comparison, GivenUp, ambiguity
 from query.formulas.grammar import STEPS, STEPS_OF_SYMBOL, FormulaReader, Grammar, NotRead, Tree
 from query.reports.choice import Options
@@ -98,6 +105,9 @@ BROKEN = (
         "no",
         "the form wb, by which it is an equation",
     ),
+    # A form without variables, and two variables that aren't a side.
+    (("last $a", "df-foo2 $a |- F. $. last $a"), "df-foo2", "not judged", "neither ( LEFT <->"),
+    (("last $a", "df-foo2 $a |- ph $. last $a"), "df-foo2", "not judged", "neither ( LEFT <->"),
     ((FOO, FOO.replace("y e. x", "y e. Foo")), "df-foo", "no", "right side has the form cfoo"),
     (("${ $d x y $.\ndf-foo", "use $a |- Foo = A $. ${ $d x y $.\ndf-foo"), "df-foo", "no", "use"),
     (
@@ -165,6 +175,40 @@ class Rules(World):
         ):
             text = changed(LOGIC, (right, other), ("E. y y e. x", "[ x / y ] y e. x"))
             self.assertEqual(self.sound(text)["df-foo"][0], sound, other)
+
+    def test_a_variable_in_two_places(self) -> None:
+        """A form binds a variable also where another one stands that may be the same."""
+        forms = "$c G H $. wg $a wff G x y $. df-g $a |- ( G x y <-> A. x x = y ) $.\n"
+        forms += "wh $a wff H $. df-h $a |- ( H <-> G x x ) $.\n"
+        found = self.sound(LOGIC.replace("last $a", f"{forms}last $a"))
+        self.assertEqual((found["df-g"][0], found["df-h"][0]), ("yes", "yes"))
+        other = forms.replace("A. x x = y", "A. y x = y")
+        found = self.sound(LOGIC.replace("last $a", f"{other}last $a"))
+        self.assertEqual((found["df-g"][0], found["df-h"][0]), ("yes", "yes"))
+        free = forms.replace("A. x x = y", "( A. x x = x -> x = y )")
+        found = self.sound(LOGIC.replace("last $a", f"{free}last $a"))
+        self.assertEqual(found["df-h"], ("no", "nothing binds the dummy x"))
+
+    def test_many_dummies(self) -> None:
+        names = [f"v{number}" for number in range(MOST_DUMMIES + 1)]
+        head = f"$v {' '.join(names)} $. " + "".join(f"s{v} $f setvar {v} $. " for v in names)
+        for some, sound in ((names[1:], "yes"), (names, "not judged")):
+            right = "".join(f"A. {name} " for name in some) + "F."
+            more = f"{head}$c G $. wg $a wff G $. ${{ $d {' '.join(some)} $."
+            more += f" df-g $a |- ( G <-> {right} ) $. $}}\n"
+            found = self.sound(LOGIC.replace("last $a", f"{more}last $a"))
+            self.assertEqual(found["df-g"][0], sound)
+        self.assertIn("more than 100 dummies", found["df-g"][1])
+
+    def test_open_theorems_are_axioms(self) -> None:
+        """What they say may not be so, also what their $d say."""
+        (each,) = (one for one in DATABASES if "unfolded aren't" in one.name)
+        text = each.base + changed(
+            each.text, ("p1 $a |- ( A P B -> F. ) $.", "p1 $p |- ( A P B -> F. ) $= ? $.")
+        )
+        self.write("db.mm", text)
+        (row,) = self.query("definitions", "db.mm", "--open", "--format=json").rows()
+        self.assertEqual((row["sound"], row["condition"]), ("not judged", "pairs"))
 
     def test_a_dummy_alone(self) -> None:
         """A right side that is one equals anything; that is right where all is equal anyway."""

@@ -427,7 +427,10 @@ class Equivalents(World):
         lines = self.answers("equivalents", "db.mm", "ax", "--format=tsv")
         self.assertEqual(lines[1:], ["proved\tbe\tla\tbe\tBar\tax-mp gen spi be la"])
         done = self.query("equivalents", "db.mm", "ax")
-        self.assertEqual(done.err, f"mmquery: db.mm: the others give ax, by be{ADVICE}\n")
+        said = "the others give ax, by be; --without be gives more of them up"
+        self.assertEqual(done.err, f"mmquery: db.mm: {said}\n")
+        done = self.query("equivalents", "db.mm", "ax", "--without=be", "--format=tsv")
+        self.assertEqual(done.lines()[1].split("\t")[0], "stronger")
 
     def test_only_restatements(self) -> None:
         """Where no link leads to the axiom, standard error says so, on one line with the rest."""

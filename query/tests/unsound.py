@@ -223,6 +223,12 @@ DATABASES = [
         {"df-foo": ("not judged", "syntax")},
     ),
     Unsound(
+        "a variable for which anything stands that is proved",
+        "$v p $. vp $f |- p $. wpi $a wff ( p -> ph ) $. df-pi $a |- ( ( p -> ph ) <-> F. ) $.\n",
+        f"{TRUE} {TRUE} wi wfal {TRUE} id {TRUE} wfal id df-pi mpbi",
+        {"df-pi": ("not judged", "syntax")},
+    ),
+    Unsound(
         "a setvar that needn't be a variable",
         "$c the P Foo $. cthe $a setvar the A $. wp $a wff A P B $. cfoo $a class Foo $.\n"
         "${ $d x A $. p1 $a |- ( x P A -> F. ) $. $} p2 $a |- the A P A $.\n"
