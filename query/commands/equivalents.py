@@ -15,6 +15,7 @@ from query.arguments.options import (
 from query.citations.graph import Graph
 from query.citations.wrappers import Kind, wrappers
 from query.commands import Command
+from query.definitions.foundations import BEGINNING
 from query.formulas.equivalents import Found, Links, Search
 from query.reports.database import Database
 
@@ -113,12 +114,14 @@ def labels_above(graph: Graph, labels: Iterable[str]) -> set[str]:
 
 def last_below(database: Database, label: str, axiom: str) -> list[str]:
     """What is likeliest to say as much as the axiom that is asked about, which this assertion says:
-    itself, or the last axiom without a `$e` on which it rests; nothing where there is none."""
+    itself, or the last axiom without a `$e` on which it rests, no definition if it can be helped;
+    nothing where there is none."""
     text = database.text
     if text.by_label[label].kind == "a":
         return [label]
     rests = rests_of(database, {label}, axiom)
-    return [each for each in rests if not text.by_label[each].frame().essential()][-1:]
+    rests = [each for each in rests if not text.by_label[each].frame().essential()]
+    return ([each for each in rests if not each.startswith(BEGINNING)] or rests)[-1:]
 
 
 def row_of(database: Database, search: Search, found: Found) -> list[Value]:
