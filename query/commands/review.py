@@ -324,19 +324,19 @@ class NewAxioms:
         return self.dependence.columns_of(reduce(or_, map(self.bits, self.rows.values()), 0))
 
     def theorems(self, column: int) -> list[str]:
-        """The labels of the theorems that rest on the axiom of a column."""
-        rows = {*self.rows.values()}
-        users = self.dependence.users(column)
-        return [self.dependence.theorems[row] for row in users if row in rows]
+        """The labels of the theorems that rest on the axiom of a column, in file order."""
+        labels = (self.dependence.theorems[row] for row in self.dependence.users(column))
+        return [label for label in labels if label in self.rows]
 
     def add_to(self, outcome: Outcome) -> None:
         """Adds to what became of a theorem on which of the axioms it rests, and by what: what its
         proof cites, the axiom itself or else the first theorem that rests on it."""
         row = self.rows.get(outcome.label)
-        left = 0 if row is None else self.bits(row)
-        graph, via = self.dependence.graph, dict.fromkeys(self.dependence.columns_of(left), "")
-        cited = graph.cites[row] if row is not None and left else ()
-        for node in sorted(cited, key=graph.is_theorem):
+        if row is None:
+            return
+        graph, left = self.dependence.graph, self.bits(row)
+        via = dict.fromkeys(self.dependence.columns_of(left), "")
+        for node in sorted(graph.cites[row], key=graph.is_theorem) if left else ():
             found = left & self.bits_of(node)
             left &= ~found
             via |= dict.fromkeys(self.dependence.columns_of(found), graph.labels[node])
