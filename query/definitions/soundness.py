@@ -58,6 +58,8 @@ SHAPE = ("form", "left", "new")
 """Those by which an axiom is an equation that says what a new form stands for."""
 
 YES, NO, UNKNOWN, TRUST = "yes", "no", "not judged", "on trust"
+NO_VARIABLE = ""
+"""No variable is like that."""
 
 
 @dataclass(frozen=True)
@@ -96,11 +98,12 @@ class Broken(Exception):
 @dataclass(frozen=True)
 class Binding:
     """What a syntax axiom binds, by the numbers of its variables from 0: `free` are those of
-    typecode `setvar` that are free in it, and `binds` has for others those in which they are
-    bound."""
+    typecode `setvar` that are free in it, and `binds` has for others those in which they are bound.
+    `dropped` are the variables that it lacks, unfolded."""
 
     free: frozenset[int]
     binds: Mapping[int, frozenset[int]]
+    dropped: frozenset[int] = frozenset()
 
 
 def undefined_form(arguments: Sequence[str]) -> Binding:
@@ -151,28 +154,29 @@ class Definition:
 class Scopes:
     """What is bound where on a right side. For each variable of typecode `setvar`, `bound` are the
     stretches of symbols in which it is. `free` has the places where it is free, unless a stretch
-    of `bound` covers them. `places` are those of other variables. `known` keeps the answers of
-    `stretches`."""
+    of `bound` covers them, or one of `dropped`, which the right side hasn't, unfolded. `places` are
+    those of all variables. `known` keeps the answers of `stretches`."""
 
     bound: dict[str, list[tuple[int, int]]] = field(default_factory=dict)
+    dropped: list[tuple[int, int]] = field(default_factory=list)
     free: dict[str, list[int]] = field(default_factory=dict)
     places: dict[str, list[int]] = field(default_factory=dict)
     known: dict[str, tuple[list[int], list[int]]] = field(default_factory=dict)
 
     def stretches(self, variable: str) -> tuple[list[int], list[int]]:
-        """Where the stretches begin in which a variable is bound, rising, and for each where what
-        was begun before or there has ended."""
+        """Where the stretches begin in which a variable is bound, or that are dropped, rising, and
+        for each where what was begun before or there has ended."""
         if variable not in self.known:
             starts: list[int] = []
             ends: list[int] = []
-            for start, end in sorted(self.bound.get(variable, ())):
+            for start, end in sorted([*self.bound.get(variable, ()), *self.dropped]):
                 starts.append(start)
                 ends.append(max(end, ends[-1]) if ends else end)
             self.known[variable] = starts, ends
         return self.known[variable]
 
-    def are_within(self, places: Sequence[int], variable: str) -> bool:
-        """Whether a variable is bound at each of these places."""
+    def are_within(self, places: Sequence[int], variable: str = NO_VARIABLE) -> bool:
+        """Whether a variable is bound at each of these places, or they are dropped."""
         starts, ends = self.stretches(variable)
         numbers = ((bisect_right(starts, place) - 1, place) for place in places)
         return all(number >= 0 and place < ends[number] for number, place in numbers)
@@ -507,6 +511,8 @@ class Definitions:
                 found.places.setdefault(each.symbols[part.start], []).append(part.start)
                 continue
             arguments, form = each.tree.below[part], self.forms[rule]
+            for number in form.dropped:
+                found.dropped.append((arguments[number].start, arguments[number].end))
             for number, argument in enumerate(arguments):
                 variable = each.symbols[argument.start]
                 if number in form.free:
@@ -630,7 +636,9 @@ def binding_of(each: Definition, scopes: Scopes) -> Binding:
             other for other, those in places.items() if scopes.are_within(those, name)
         )
     free = frozenset(number for number in setvars if scopes.is_free(each.left[number]))
-    return Binding(free, binds)
+    names = enumerate(each.left)
+    dropped = (number for number, name in names if scopes.are_within(scopes.places.get(name, ())))
+    return Binding(free, binds, frozenset(dropped))
 
 
 def see_distinct(each: Definition) -> None:

@@ -189,6 +189,20 @@ class Rules(World):
         found = self.sound(LOGIC.replace("last $a", f"{free}last $a"))
         self.assertEqual(found["df-h"], ("no", "nothing binds the dummy x"))
 
+    def test_a_part_that_is_dropped(self) -> None:
+        """What stands there isn't in the formula, unfolded, so nothing has to bind it."""
+        forms = "$c G H $. wg $a wff G ph ps $. df-g $a |- ( G ph ps <-> ( ps -> ps ) ) $.\n"
+        forms += "wh $a wff H $. df-h $a |- ( H <-> G x = x F. ) $.\n"
+        for text, sound in (
+            (forms, "yes"),
+            (forms.replace("G x = x F.", "G F. x = x"), "no"),
+            (forms.replace("G x = x F.", "G G x = x F. F."), "yes"),
+            (forms.replace("G x = x F.", "G F. G x = x F."), "yes"),
+            (forms.replace("G x = x F.", "G F. G F. x = x"), "no"),
+        ):
+            found = self.sound(LOGIC.replace("last $a", f"{text}last $a"))
+            self.assertEqual((found["df-g"][0], found["df-h"][0]), ("yes", sound), text)
+
     def test_many_dummies(self) -> None:
         names = [f"v{number}" for number in range(MOST_DUMMIES + 1)]
         head = f"$v {' '.join(names)} $. " + "".join(f"s{v} $f setvar {v} $. " for v in names)
