@@ -93,16 +93,12 @@ class Graph:
         self.see(label)
         return self.index[label]
 
-    def theorem(
-        self, label: str, on: int | None = None, order: str = "", otherwise: str = ""
-    ) -> int:
+    def theorem(self, label: str, on: int | None = None, order: str = "") -> int:
         """The node of a theorem. NoAnswer where there is none of this label; where an axiom has it,
-        it says in which order they stand if what is asked for `on` is a theorem, and otherwise what
-        may help."""
+        it says in which order they stand if what is asked for `on` is a theorem."""
         node = self.node(label)
         if not self.is_theorem(node):
-            said = order if on is not None and self.is_theorem(on) else otherwise
-            besides = f"; {said}" if said else ""
+            besides = f"; {order}" if order and on is not None and self.is_theorem(on) else ""
             raise NoAnswer(
                 f"{self.name}: '{label}' is an axiom, where a theorem is wanted{besides}"
             )

@@ -28,8 +28,8 @@ MOST_NAMED = 10
 
 GRAPH_PAGE = """
 Writes the graph of citations: an arrow leads from each theorem to what its proof applies. With
-THEOREM, only what that rests on; with ON too, only the chains from THEOREM to ON. Axioms that
-nothing cites aren't in it.
+THEOREM, only what that rests on; with ON too, only the chains from THEOREM to ON. With an axiom
+alone in place of THEOREM, only what rests on that. Axioms that nothing cites aren't in it.
 
 --as dot      for `dot`, a program of Graphviz, which makes pictures of it; axioms are boxes
 --as graphml  for NetworkX and Gephi; the data `kind` of a node is `axiom` or `theorem`
@@ -44,6 +44,7 @@ may lead past a landmark; what all of them lead through is said by `why --unavoi
 arrow is dashed where it is no citation, and each node says in which chapter it stands.
 
   $ mmquery graph set.mm zorn ax-ac2 --as dot
+  $ mmquery graph set.mm ax-groth | dot -Tsvg > groth.svg
   $ mmquery graph set.mm stirling --landmarks 25 | dot -Tsvg > stirling.svg
 """
 
@@ -91,15 +92,16 @@ def run_graph(context: Context, arguments: argparse.Namespace) -> int:
 
 def chosen_part(graph: Graph, arguments: argparse.Namespace) -> Part:
     """The part that is asked for."""
-    if arguments.theorem is None:
+    if is_of_no_theorem(graph, arguments):
         for option in ("depth", "through", "landmarks"):
             if getattr(arguments, option) is not None:
                 raise NoAnswer(f"--{option} is about the graph of a THEOREM, so it wants one")
-        return subgraphs.whole(graph)
+        if arguments.theorem is None:
+            return subgraphs.whole(graph)
+        return subgraphs.part_of(graph, graph.above([graph.node(arguments.theorem)]))
     end = None if arguments.on is None else graph.node(arguments.on)
     order = "THEOREM comes first, and ON behind it"
-    otherwise = "`falls` and `cited-by` list what rests on it, `needs` what is under its symbols"
-    start = graph.theorem(arguments.theorem, end, order, otherwise)
+    start = graph.theorem(arguments.theorem, end, order)
     nodes = graph.below([start])
     if end is not None:
         nodes &= graph.above([end])
@@ -117,11 +119,20 @@ def chosen_part(graph: Graph, arguments: argparse.Namespace) -> Part:
     return part
 
 
+def is_of_no_theorem(graph: Graph, arguments: argparse.Namespace) -> bool:
+    """Whether the whole graph is asked for, or what rests on an axiom."""
+    if arguments.theorem is None:
+        return True
+    return arguments.on is None and not graph.is_theorem(graph.node(arguments.theorem))
+
+
 def why_empty(graph: Graph, arguments: argparse.Namespace) -> str:
     """Says why a part has no arrow."""
     if arguments.theorem is None:
         return f"{graph.name}: no theorem cites anything"
     theorem = shown(arguments.theorem)
+    if is_of_no_theorem(graph, arguments):
+        return f"{graph.name}: nothing rests on {theorem}"
     if arguments.on is not None and not is_above(graph, arguments.theorem, arguments.on):
         return f"{graph.name}: {theorem} doesn't rest on {shown(arguments.on)}"
     if arguments.through is not None:

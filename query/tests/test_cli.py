@@ -131,9 +131,7 @@ class CommandLine(World):
         order = "ON comes first, and THEOREMs behind it"
         self.refuses("frees", "small.mm", "a2", "a1i", "ax-1", why=f"{why}; {order}\n")
         self.refuses("frees", "small.mm", "ax-mp", "ax-1", why=f"{why}\n")
-        needs = "`falls` and `cited-by` list what rests on it, `needs` what is under its symbols"
-        self.refuses("graph", "small.mm", "ax-1", "ax-mp", why=f"{why}; {needs}\n")
-        self.refuses("graph", "small.mm", "ax-1", why=f"{why}; {needs}\n")
+        self.refuses("graph", "small.mm", "ax-1", "ax-mp", why=f"{why}\n")
 
     def test_what_stands_without_an_option(self) -> None:
         self.refuses("top", "small.mm", "--least", why="no option --least\n")

@@ -133,7 +133,34 @@ class Parts(World):
         self.refuses("graph", "db.mm", "a2", "--as", "svg", why=why)
         self.refuses("graph", "db.mm", "a2", "--as", "gif", why="invalid choice: 'gif'")
 
+    def test_upwards(self) -> None:
+        """With an axiom alone, what rests on it, which is written as any other part."""
+        tried = 0
+        for seed in range(8):
+            database, _ = self.asked(seed, 10)
+            for axiom in database.axioms:
+                above = {one for one in database.theorems() if axiom in database.rests(one)}
+                wanted = {
+                    (one, cited)
+                    for one in above
+                    for cited in database.cites.get(one, [])
+                    if cited in above | {axiom}
+                }
+                self.assertEqual({*self.edges(axiom)}, wanted)
+                tried += len(above) < len(database.theorems())
+        self.assertGreater(tried, 5)
+        self.write("db.mm", SMALL)
+        axiom = "ax-1"
+        dot = self.query("graph", "db.mm", axiom).lines()
+        self.assertEqual(dot[0], f'digraph "{axiom}" {{')
+        self.assertIn(f'  "{axiom}" [shape=box];', dot)
+        for option in ("--depth=1", "--through=ax", "--landmarks=2"):
+            self.refuses("graph", "db.mm", axiom, option, why="about the graph of a THEOREM")
+
     def test_nothing(self) -> None:
+        self.write("db.mm", "$c a $. b $a a $.\n")
+        done = self.query("graph", "db.mm", "b", "--as=edges")
+        self.assertEqual((done.out, done.err), ("", "mmquery: db.mm: nothing rests on b\n"))
         self.write("db.mm", SMALL)
         for words, why in (
             (("ax1", "wi"), "ax1 doesn't rest on wi"),
