@@ -3,6 +3,7 @@
 import argparse
 from collections.abc import Iterable, Iterator
 
+from query.answers.errors import NoAnswer
 from query.answers.output import Value
 from query.arguments.context import Context
 from query.arguments.options import (
@@ -17,6 +18,7 @@ from query.citations.wrappers import Kind, wrappers
 from query.commands import Command
 from query.definitions.foundations import BEGINNING
 from query.formulas.equivalents import Found, Links, Search
+from query.formulas.restated import restated
 from query.reports.database import Database
 
 PAGE = """
@@ -43,9 +45,18 @@ leads to AX. What isn't said by such links isn't found. Where no row has a link,
 restate AX, standard error says so, and also through which theorems all chains from one of them to
 AX lead: a proof of these without AX would prove AX.
 
+Without AX, it lists in file order the axioms that an assertion states which doesn't rest on them.
+Each of these could be left out by itself, but maybe not all of them: what states one may rest on
+another one. Here only the names of variables may differ, and of assertions that say the same the
+first 1,000 are looked at.
+
+axiom  the label of the axiom
+label  that of the first such assertion, which may be an axiom too
+
   $ mmquery equivalents set.mm ax-ac2
   $ mmquery equivalents set.mm ax-ac2 --axioms ax-
   $ mmquery equivalents set.mm ax-ac --without ax-ac2
+  $ mmquery equivalents nf.mm
 """
 COLUMNS = ("how", "label", "by", "from", "statement", "rests")
 
@@ -53,7 +64,7 @@ COLUMNS = ("how", "label", "by", "from", "statement", "rests")
 def configure(parser: Parser) -> None:
     """Adds the words and options."""
     add_database(parser)
-    parser.add_argument("axiom", metavar="AX")
+    parser.add_argument("axiom", metavar="AX", nargs="?")
     parser.values("--without", "LABEL", "gives up LABEL too; several: by commas, or more options")
     add_choice_of_axioms(parser)
 
@@ -61,6 +72,10 @@ def configure(parser: Parser) -> None:
 def run(context: Context, arguments: argparse.Namespace) -> int:
     """Answers."""
     database = context.database(arguments.database, options_of(arguments))
+    if arguments.axiom is None:
+        if arguments.without:
+            raise NoAnswer("--without is about what gives AX back, so it wants AX")
+        return put_restated(context, database)
     graph = database.graph()
     others = [each for each in between_commas(arguments.without) if each != arguments.axiom]
     lost = labels_above(graph, others)
@@ -77,6 +92,16 @@ def run(context: Context, arguments: argparse.Namespace) -> int:
     said += told_of_links(database, rows, arguments.axiom)
     if said:
         context.tell(f"{database.name}: {'; '.join(said)}")
+    return 0
+
+
+def put_restated(context: Context, database: Database) -> int:
+    """Lists the axioms that could be left out since something else states them."""
+    database.see_text()
+    pairs = restated(database.text.assertions, database.dependence())
+    rows: list[list[Value]] = [[axiom.label, one.label] for axiom, one in pairs]
+    why = f"{database.name}: no assertion states an axiom on which it doesn't rest"
+    context.table(("axiom", "label"), rows, why)
     return 0
 
 

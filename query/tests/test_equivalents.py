@@ -11,7 +11,7 @@ from collections.abc import Iterator, Sequence
 from dataclasses import dataclass, field
 from unittest import mock
 
-from query.tests.world import DATABASES, World, answered, asked_rows, built_program
+from query.tests.world import DATABASES, World, answered, asked_rows, built_program, invented
 
 NAMES = "x y z u v w t s r q p o n m l k".split()
 BASE = f"""$c wff setvar |- ( ) -> <-> A. R Q Foo Bar $.
@@ -648,3 +648,71 @@ class Equivalents(World):
 
 if __name__ == "__main__":
     unittest.main()
+
+
+RESTATED = """$c |- wff ( -> ) $. $v p q r $.
+wp $f wff p $. wq $f wff q $. wr $f wff r $.
+wi $a wff ( p -> q ) $.
+a1 $a |- ( p -> ( q -> p ) ) $.
+a2 $a |- ( r -> ( p -> r ) ) $.
+a3 $a |- ( p -> p ) $.
+${ m1 $e |- p $. m2 $e |- ( p -> q ) $. mp $a |- q $. $}
+${ n1 $e |- r $. n2 $e |- ( r -> p ) $. np $p |- p $= wr wp n1 n2 mp $. $}
+${ o2 $e |- ( p -> q ) $. o1 $e |- p $. mo $a |- q $. $}
+t1 $p |- ( q -> ( p -> q ) ) $= wq wp a1 $.
+t3 $p |- ( q -> q ) $= wq a3 $.
+${ $d p q $. d1 $a |- ( p -> ( q -> q ) ) $. $}
+d2 $a |- ( r -> ( p -> p ) ) $.
+"""
+
+
+class Restated(World):
+    """Axioms that something states which doesn't rest on them."""
+
+    def test_by_hand(self) -> None:
+        """But for the names of variables, with the hypotheses in their order, and with no more
+        distinct variables."""
+        self.write("db.mm", RESTATED)
+        rows = self.query("equivalents", "db.mm", "--format=json").rows()
+        self.assertEqual(
+            [(row["axiom"], row["label"]) for row in rows],
+            [("a1", "a2"), ("a2", "a1"), ("d1", "d2")],
+        )
+        same = RESTATED.replace(
+            "o2 $e |- ( p -> q ) $. o1 $e |- p $.", "o1 $e |- p $. o2 $e |- ( p -> q ) $."
+        )
+        self.write("db.mm", same)
+        lines = self.answers("equivalents", "db.mm", "--format=tsv")
+        self.assertEqual(lines[1:], ["a1\ta2", "a2\ta1", "mp\tmo", "mo\tmp", "d1\td2"])
+        lines = self.answers("equivalents", "db.mm", "--format=tsv", "--axioms=d")
+        self.assertEqual(lines[1:], ["d1\td2"])
+        self.write("db.mm", RESTATED.split("a2 $a")[0])
+        done = self.query("equivalents", "db.mm")
+        self.assertEqual((done.out, done.status), ("", 0))
+        self.assertIn("db.mm: no assertion states an axiom on which it doesn't rest", done.err)
+        self.refuses("equivalents", "db.mm", "--without=a1", why="so it wants AX")
+
+    def test_by_chance(self) -> None:
+        """Each assertion says the same, so another one states an axiom that doesn't rest on it."""
+        for seed in range(4):
+            database = invented(random.Random(seed), 8)
+            self.write("db.mm", database.text)
+            rows = self.query("equivalents", "db.mm", "--format=json").rows()
+            others = [*database.axioms, *database.theorems()]
+            order = {label: database.text.index(f"{label} $") for label in others}
+            for axiom in database.axioms:
+                free = [
+                    label
+                    for label in sorted(others, key=order.__getitem__)
+                    if label != axiom and axiom not in database.rests(label)
+                ]
+                found = [row["label"] for row in rows if row["axiom"] == axiom]
+                self.assertEqual(found, free[:1], (seed, axiom))
+
+    @unittest.skipUnless((DATABASES / "nf.mm").exists(), "there is no nf.mm")
+    def test_nf(self) -> None:
+        path = str(DATABASES / "nf.mm")
+        rows = self.query("equivalents", path, "--format=json").rows()
+        self.assertEqual(len(rows), 25)
+        for row in rows:
+            self.assertNotIn(row["axiom"], self.answers("rests", path, str(row["label"])))
