@@ -52,7 +52,7 @@ INDEX: dict[str, tuple[str, str]] = {
     "spare": ("spare", "theorems that can do without AXIOMs, or with shorter proofs"),
     "repeats": ("repeats", "theorems that say what an earlier statement says"),
     "unneeded": ("unneeded", "hypotheses, $d conditions and symbols that nothing needs"),
-    "top": ("ranking", "which axioms are used most, or least"),
+    "top": ("ranking", "which axioms are used most, or least, and what is cited most"),
     "sets": ("ranking", "how many theorems rest on each set of axioms"),
     "within": ("ranking", "which theorems rest on no more than the LABELs"),
     "same": ("ranking", "which theorems rest on the same axioms"),

@@ -2,6 +2,7 @@
 rest."""
 
 import argparse
+from collections import Counter
 from collections.abc import Sequence
 from hashlib import blake2b
 
@@ -16,8 +17,7 @@ from query.texts.text import Text
 
 TOP_PAGE = """
 Lists the axioms on which most theorems rest. With --theorems, the theorems that rest on most
-axioms. Equal ones are in file order. How often each theorem is cited is told by `uncited DATABASE
---at-most 999999`.
+axioms. Equal ones are in file order.
 
 theorems  how many theorems rest on it (with --theorems, axioms: on how many it rests)
 axiom     the label of the axiom (with --theorems, theorem)
@@ -32,6 +32,11 @@ outside   how many theorems that stand in no mathbox rest on it
 theorems  how many theorems rest on it, those in mathboxes too
 axiom     the label of the axiom
 
+With --cited, the axioms and theorems that most theorems cite:
+
+theorems   how many theorems cite it
+assertion  its label
+
 With --against OLD, in file order the axioms on which another number of theorems rests than in the
 database OLD:
 
@@ -41,6 +46,7 @@ axiom     the label of the axiom
 
   $ mmquery top set.mm 3
   $ mmquery top set.mm --theorems 3
+  $ mmquery top set.mm --cited 20
   $ mmquery top set.mm --below 1
   $ mmquery top set.mm --outside-mathboxes --below 1 --main --axioms df-
   $ mmquery top set.mm --against old.mm
@@ -100,7 +106,10 @@ def configure_top(parser: Parser) -> None:
     )
     parser.exclude("--theorems", "--below", "--against")
     parser.exclude("--theorems", "--outside-mathboxes", "--against")
+    for option in ("--theorems", "--below", "--outside-mathboxes", "--against"):
+        parser.exclude("--cited", option)
     parser.flag("--theorems", "the theorems that rest on most axioms, not axioms")
+    parser.flag("--cited", "the axioms and theorems that most theorems cite")
     parser.value("--below", "B", "all axioms on which fewer than B theorems rest", type=positive)
     parser.flag("--outside-mathboxes", "count only theorems that stand in no mathbox")
     parser.value("--against", "OLD", "axioms on which another number rests than in OLD")
@@ -119,8 +128,27 @@ def run_top(context: Context, arguments: argparse.Namespace) -> int:
         why = f"on each axiom as many theorems rest in {old.name} as in {database.name}"
         context.table(["was", "theorems", "axiom"], rows, why, "axiom")
         return 0
+    if arguments.cited:
+        put_cited(context, arguments, database)
+        return 0
     put_ranking(context, arguments, database)
     return 0
+
+
+def put_cited(context: Context, arguments: argparse.Namespace, database: Database) -> None:
+    """Answers `top --cited`."""
+    graph, dependence = database.graph(), database.dependence()
+    counts = Counter(graph.cites.targets)
+    labels = [*dependence.axioms, *dependence.theorems]
+    if not database.is_report:
+        text = database.text
+        labels.sort(key=lambda label: text.by_label[label].number)
+    rows: list[list[Value]] = [[counts[graph.node(label)], label] for label in labels]
+    if not rows:
+        context.tell(f"{database.name}: has no axiom{dependence.which}, and no theorem")
+    passing = sorted(context.passing(rows, 1), key=lambda row: -int(str(row[0])))
+    listed = context.first(passing, arguments.number or SHOWN_RANKS, LARGER)
+    context.out.table(["theorems", "assertion"], listed)
 
 
 def differences(old: Dependence, new: Dependence) -> list[list[Value]]:

@@ -2,6 +2,7 @@
 
 import os
 import pty
+import random
 import select
 import struct
 import subprocess
@@ -13,7 +14,7 @@ import zlib
 from unittest import mock
 
 from query.tests import world
-from query.tests.world import MMQUERY, SMALL, World, asked
+from query.tests.world import MMQUERY, SMALL, World, asked, invented
 from query.texts.uncommented import declared_at, without_comments
 
 OPEN = SMALL.replace("wp wq wp wi h wp wq ax-1 ax-mp $.", "? $.")
@@ -147,6 +148,25 @@ class Answers(World):
         self.assertEqual(rows, ["kind\taxiom\tlabels", *wanted])
         rows = self.answers("rests", "--apart", "--only=wff", "small.mm", "a1i", "--format=tsv")
         self.assertEqual(rows[1:], ["logic\twi\ta1i", "syntax\tax-1\ta1i", "syntax\tax-mp\ta1i"])
+
+    def test_what_is_cited_most(self) -> None:
+        for seed in range(4):
+            database = invented(random.Random(seed), 9)
+            self.write("db.mm", database.text)
+            some = [*database.axioms, *database.theorems()]
+            cited = [each for cites in database.cites.values() for each in cites]
+            some.sort(key=lambda label: database.text.index(f"{label} $"))
+            some.sort(key=lambda label: -cited.count(label))
+            rows = self.query("top", "db.mm", "3", "--cited", "--format=json").rows()
+            self.assertEqual(
+                [(row["theorems"], row["assertion"]) for row in rows],
+                [(cited.count(label), label) for label in some[:3]],
+            )
+        self.write("report", self.report("db.mm"))
+        lines = self.answers("top", "report", "99", "--cited", "--format=tsv")[1:]
+        wanted = [f"{cited.count(label)}\t{label}" for label in some]
+        self.assertEqual(sorted(lines), sorted(wanted))
+        self.refuses("top", "db.mm", "--cited", "--theorems", why="not allowed with argument")
 
     def test_what_changed_in_numbers(self) -> None:
         new = SMALL.replace("wi2 $p", "${ n $e |- p $. ax-n $a |- ( q -> p ) $. $}\nwi2 $p")
