@@ -98,7 +98,15 @@ def run(context: Context, arguments: argparse.Namespace) -> int:
 def put_restated(context: Context, database: Database) -> int:
     """Lists the axioms that could be left out since something else states them."""
     database.see_text()
-    pairs = restated(database.text.assertions, database.dependence())
+    dependence = database.dependence()
+    columns = dependence.columns
+
+    def rests(label: str, axiom: str) -> bool:
+        """Whether an assertion rests on an axiom. An axiom has no row, and rests on none."""
+        row = dependence.rows.get(label)
+        return row is not None and dependence.is_marked(row, columns[axiom])
+
+    pairs = restated(database.text.assertions, columns, rests)
     rows: list[list[Value]] = [[axiom.label, one.label] for axiom, one in pairs]
     why = f"{database.name}: no assertion states an axiom on which it doesn't rest"
     context.table(("axiom", "label"), rows, why)

@@ -2,12 +2,11 @@
 
 from __future__ import annotations
 
-from collections.abc import Iterator, Sequence
+from collections.abc import Callable, Container, Iterator, Sequence
 from typing import NamedTuple
 
 from query.formulas.syntax import read_as
 from query.platform import progress
-from query.reports.database import Dependence
 from query.texts.assertions import Assertion
 
 VARIABLE = "\0"
@@ -41,11 +40,12 @@ def said_by(one: Assertion) -> Said:
 
 
 def restated(
-    assertions: Sequence[Assertion], dependence: Dependence
+    assertions: Sequence[Assertion], chosen: Container[str], rests: Callable[[str, str], bool]
 ) -> Iterator[tuple[Assertion, Assertion]]:
     """The axioms that are chosen, in file order, each with the first assertion that states it, asks
-    for no more distinct variables, and doesn't rest on it."""
-    axioms = [one for one in assertions if one.letter == "a" and one.label in dependence.columns]
+    for no more distinct variables, and doesn't rest on it. `rests` says whether one of the first
+    label rests on the second."""
+    axioms = [one for one in assertions if one.letter == "a" and one.label in chosen]
     said = {one.label: said_by(one) for one in axioms}
     stating: dict[str, list[tuple[Assertion, Said]]] = {each.words: [] for each in said.values()}
     lengths = {one.formula.count(" ") for one in axioms}
@@ -58,12 +58,6 @@ def restated(
     for axiom in axioms:
         own = said[axiom.label]
         for one, each in stating[own.words]:
-            if one is not axiom and each.pairs <= own.pairs and is_free(dependence, one, axiom):
+            if one is not axiom and each.pairs <= own.pairs and not rests(one.label, axiom.label):
                 yield axiom, one
                 break
-
-
-def is_free(dependence: Dependence, one: Assertion, axiom: Assertion) -> bool:
-    """Whether an assertion doesn't rest on an axiom."""
-    row = dependence.rows.get(one.label)
-    return row is None or not dependence.is_marked(row, dependence.columns[axiom.label])

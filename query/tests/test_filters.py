@@ -182,12 +182,15 @@ class Filtered(World):
             database = DATABASES.get(name, "db.mm")
             asked = [name, "--format", "json", *flags, database, *words]
             column = COLUMNS.get(name, "theorem")
-            whole = self.query(*asked).rows()
+            every = self.query(*asked)
+            whole = every.rows()
             self.assertTrue(whole, name)
+            self.assertEqual(every.status, int(name == "definitions"), name)
             for filters, test in TESTS:
                 want = [row for row in whole if test(str(row[column]))]
                 done = self.query(*asked, *filters)
-                self.assertEqual((done.status, done.rows()), (0, want), (name, filters))
+                status = every.status if want else 0
+                self.assertEqual((done.status, done.rows()), (status, want), (name, filters))
                 # Of definitions it says also how many aren't judged, and of what frees most that it
                 # may say the axiom in another form.
                 if name not in ("definitions", "frees") or not want:
