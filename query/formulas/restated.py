@@ -35,8 +35,8 @@ def said_by(one: Assertion) -> Said:
             number = 0 if kind is None else numbers.setdefault(word, len(numbers))
             words.append(word if kind is None else f"{VARIABLE}{kind} {number}")
         words.append(VARIABLE)
-    pairs = ((numbers[name], numbers[other]) for name, other in frame.pairs())
-    return Said(" ".join(words), frozenset(map(frozenset, pairs)))
+    pairs = (frozenset((numbers[name], numbers[other])) for name, other in frame.pairs())
+    return Said(" ".join(words), frozenset(pairs))
 
 
 def restated(
