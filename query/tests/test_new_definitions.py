@@ -242,6 +242,16 @@ class Reviewed(World):
         self.assertEqual(sum(line.startswith("- `df-") for line in told), 60)
         self.assertIn("- 10 more definitions", told)
 
+    def test_labels_that_markdown_means(self) -> None:
+        """Those of a form, and of an axiom that speaks of it, are code as well."""
+        syntax = "$c Foo $. www.evil.example $a class Foo $. "
+        use = "GH-1 $a |- ( Foo = _V -> F. ) $.\n"
+        old = self.write("old.mm", BASE + syntax + use)
+        new = self.write("new.mm", f"{BASE}{syntax}df-foo $a |- Foo = (/) $. {use}")
+        lines = self.query("review", old, new, "--format=markdown").lines()
+        told = "- `df-foo` is a new definition of `www.evil.example`, of which `GH-1` speaks"
+        self.assertIn(told, lines)
+
     def test_a_typecode_that_markdown_means(self) -> None:
         """It may be any symbol, and no word of the comment is a link or a mention by it."""
         old = self.write("old.mm", BASE)
