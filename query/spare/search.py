@@ -14,6 +14,7 @@ from collections.abc import Callable, Collection, Iterable, Mapping, Sequence
 from dataclasses import dataclass
 
 from query.citations.bits import bits_of, joined
+from query.platform import progress
 from query.spare.conventions import Conventions
 from query.spare.index import Budget, Index, Key, keys_for, pattern_key
 from query.spare.proofs import Proof, Step
@@ -113,7 +114,8 @@ class Shelf:
         self.index = Index(rules.trees, rules.grammar)
         self.citable: dict[int, Citable] = {}
         needing: dict[Key, list[int]] = {}
-        for number in bits_of(conventions.citable):
+        citable = [*bits_of(conventions.citable)]
+        for number in progress.counted(citable, "sorting statements that may be cited"):
             for key in self.add(rules[number]):
                 needing.setdefault(key, []).append(number)
         most = MOST_KEYS // (len(rules) + 1)
