@@ -185,7 +185,6 @@ class CommandLine(World):
             ("same", "a3"),
             ("same", "ax-1"),
             ("graph", "a3"),
-            ("graph", "ax-1"),
             ("graph", "a2", "a3"),
             ("falls", "a2", "--without", "a3"),
         ):
