@@ -128,17 +128,26 @@ def run(words: list[str]) -> int:
     see_order(parser, arguments)
     out = Output(getattr(arguments, "format", "text"))
     limits.choose(Limits(arguments.limit_time, arguments.limit_memory))
+    remarks: list[str] = []
     progress.begin()
     try:
         filters = filters_of(arguments) if chosen.lists else Filters()
-        context = Context(out, not arguments.no_cache, filters)
+        context = Context(out, not arguments.no_cache, filters, remarks=remarks)
         status = chosen.run(context, arguments)
+    except NoAnswer:
+        tell_all(remarks)  # they may say what helps
+        raise
     finally:
         progress.end()
     out.flush()
-    for remark in context.remarks:
-        tell(remark)
+    tell_all(remarks)
     return status
+
+
+def tell_all(remarks: list[str]) -> None:
+    """Writes remarks to standard error, a line each."""
+    for remark in remarks:
+        tell(remark)
 
 
 def see_order(parser: Parser, arguments: argparse.Namespace) -> None:

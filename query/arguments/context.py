@@ -92,6 +92,6 @@ class Context:
             self.tell(f"{self.asked.name}: {'; '.join(said)}")
 
     def tell(self, text: str) -> None:
-        """Adds a line for standard error, a remark that changes nothing of the answer. Where there
-        is no answer, or it can't be written, that line alone is said, and no remark."""
+        """Adds a line for standard error, a remark that changes nothing of the answer. Where this
+        can't be written, that line alone is said, and no remark."""
         self.remarks.append(text)
