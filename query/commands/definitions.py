@@ -29,8 +29,8 @@ from query.definitions.soundness import (
     YES,
     Definitions,
     Verdict,
-    is_definition,
     cites_by,
+    is_definition,
 )
 from query.definitions.unfolding import statement, without
 from query.exports.graph_files import Kinds, lines_of

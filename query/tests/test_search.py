@@ -316,6 +316,13 @@ class Searched(World):
         self.refuses("search", "small.mm", "--", "-u", why="no statement has the symbol '-u'")
         self.refuses("verify", "-> p", "small.mm", why="there is no option -> p")
 
+    def has_none(self, pattern: str, said: str) -> None:
+        """No statement `b..` has a pattern, and this is said besides."""
+        done = self.query("search", "--like=b*", "--", "db.mm", pattern)
+        self.assertEqual((done.status, done.out), (0, ""), pattern)
+        nothing = f"no formula has that among what passes --like 'b*'{said}"
+        self.assertEqual(done.err, f"mmquery: db.mm: {nothing}\n", pattern)
+
     def test_the_sides_of_an_arrow(self) -> None:
         """Where nothing has a pattern with one arrow, it is said how many have both its sides."""
         lines = "b1 $a |- ( Foo <-> Q x ) $. b2 $a |- ( ( Foo -> Q x ) <-> R x y ) $.\n"
@@ -328,10 +335,7 @@ class Searched(World):
             ("Q x -> Foo -> ph", ""),
             ('"Q x -> Foo"', ""),
         ):
-            done = self.query("search", "--like=b*", "--", "db.mm", pattern)
-            self.assertEqual((done.status, done.out), (0, ""), pattern)
-            nothing = f"no formula has that among what passes --like 'b*'{said}"
-            self.assertEqual(done.err, f"mmquery: db.mm: {nothing}\n", pattern)
+            self.has_none(pattern, said)
         self.assertEqual(self.found("--like=b*", "db.mm", "Foo -> Q x"), [("b2", None)])
 
     def test_brackets_that_are_left_out(self) -> None:
@@ -348,10 +352,7 @@ class Searched(World):
             ("( Foo -> Q x ) -> Q x", ""),
             ('"Foo -> Q x -> Foo"', ""),
         ):  # fmt: skip
-            done = self.query("search", "--like=b*", "--", "db.mm", pattern)
-            self.assertEqual((done.status, done.out), (0, ""), pattern)
-            nothing = f"no formula has that among what passes --like 'b*'{said}"
-            self.assertEqual(done.err, f"mmquery: db.mm: {nothing}\n", pattern)
+            self.has_none(pattern, said)
             if said:
                 self.assertEqual(len(self.found("--like=b*", "db.mm", said.split("'")[1])), 1)
 
@@ -399,10 +400,7 @@ class Searched(World):
             ("|- R x y", ""),
             ('"|- Q x"', ""),
         ):
-            done = self.query("search", "--like=b*", "--", "db.mm", pattern)
-            self.assertEqual((done.status, done.out), (0, ""), pattern)
-            nothing = f"no formula has that among what passes --like 'b*'{said}"
-            self.assertEqual(done.err, f"mmquery: db.mm: {nothing}\n", pattern)
+            self.has_none(pattern, said)
         lines = "b1 $a |- ( Foo -> ( ( Q x -> Q y ) -> Foo ) ) $.\n"
         self.write("db.mm", BASE + lines)
         err = self.query("search", "--like=b*", "db.mm", "|- Q x -> Q y -> ph").err
